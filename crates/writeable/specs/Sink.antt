@@ -1,0 +1,35 @@
+-- What sinks and sources mean: what was taken of a text, and where a refusal comes from.
+use Rattle.std.specs.Prelude.{◌≡◌, ℕ, ◌+◌, ◌-◌, ◌^◌, ◌≤◌, min, List, [], ◌++◌, Bool, true, Result, IsErrOf, Some}
+use Rattle.std.proofs.Common.{sym, ap, ◌∙◌, append-nil, append_assoc, arith}
+use Rattle.writeable.specs.declared.sink.SinkError.{SinkError}
+use Rattle.writeable.specs.declared.sink.SinkError.TheVariants.{Fault, NoMemory}
+
+-- the sink took a front of the text
+pub record TookPrefix {S A : Type 0} (took : S → List A → S → Type 0) (old : S) (text : List A) (new : S) : Type 0 where
+  pub front : List A
+  pub rest : List A
+  pub parts : front ++ rest ≡ text
+  pub taken : took old front new
+
+-- a count of faults that ends at the greatest number of 64 bits is greater, or stands there
+abbrev pub Rose : ℕ → ℕ → Type 0
+Rose before now = min (before + 1) (2 ^ 64 - 1) ≤ now
+
+-- a fault only where the count of faults rose, want of memory only from a sink that takes memory
+pub record HasCause {T : Type 0} (before now : ℕ) (memory : Bool) (result : Result T SinkError) : Type 0 where
+  pub fault : IsErrOf result Fault → Rose before now
+  pub no_memory : IsErrOf result NoMemory → memory ≡ true
+
+-- ---- laws of sinks that hold a text, and of counts
+
+pub append_nothing : (s : List ℕ) → s ≡ s ++ []
+append_nothing s = sym (append-nil s)
+
+pub append_both : (a b c s t : List ℕ) → b ≡ a ++ s → c ≡ b ++ t → c ≡ a ++ (s ++ t)
+append_both a b c s t p q = q ∙ ap (λ l. l ++ t) p ∙ append_assoc a s t
+
+pub append_held : (a b t h : List ℕ) → b ≡ a ++ t → Some a ≡ Some h → Some b ≡ Some (h ++ t)
+append_held a b t h p q = let same : a ≡ h = cc in ap Some (p ∙ ap (λ l. l ++ t) same)
+
+pub later_both : (a b c : ℕ) → a ≤ b → b ≤ c → a ≤ c
+later_both a b c p q = omega arith

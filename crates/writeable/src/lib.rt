@@ -1,0 +1,20 @@
+//! Texts that values write, and the outside that they are written to and read from.
+//!
+//! A [`Writeable`] value means one text and writes it, piece by piece, to a [`Sink`].
+#![tactic(auto)]
+
+mod sink;
+mod slice_source;
+mod source;
+mod standard;
+mod string_sink;
+mod text;
+mod value;
+
+pub use sink::{Sink, SinkError};
+pub use slice_source::SliceSource;
+pub use source::{Source, SourceFault};
+pub use standard::{StdSink, StdSource};
+pub use string_sink::StringSink;
+pub use text::{OwnedText, TextList, TextRow};
+pub use value::Writeable;
