@@ -1,3 +1,4 @@
+pub mod Hint
 pub mod Sink
 pub mod SliceSource
 pub mod StdSource

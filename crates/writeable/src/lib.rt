@@ -3,6 +3,7 @@
 //! A [`Writeable`] value means one text and writes it, piece by piece, to a [`Sink`].
 #![tactic(auto)]
 
+mod hint;
 mod sink;
 mod slice_source;
 mod source;
@@ -11,6 +12,7 @@ mod string_sink;
 mod text;
 mod value;
 
+pub use hint::{LengthHint, replaced_hint, sum_hints, sum_lengths};
 pub use sink::{Sink, SinkError};
 pub use slice_source::SliceSource;
 pub use source::{Source, SourceFault};
