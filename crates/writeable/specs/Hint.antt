@@ -1,5 +1,6 @@
 -- Hints on the length of a text in UTF-8: a lower bound, and an upper bound where there is one.
 use Rattle.std.specs.Prelude.{ℕ, ◌+◌, ◌-◌, ◌*◌, ◌^◌, ◌≤◌, min, max, nat_le, if◌then◌else◌, List, length, Option, Some, None, IfSome, option_and_then, encode_utf8_all, unwrap_or, fold}
+use Rattle.std.proofs.Common.{arith}
 use Rattle.writeable.specs.declared.hint.LengthHint.{LengthHint}
 
 -- how many bytes a text has in UTF-8
@@ -75,3 +76,17 @@ hint_rule source n replacement = record {
   0 = if nat_le n replacement.0 then source.0 else 0;
   1 = option_and_then (λ most. if nat_le most n then source.1 else None) replacement.1;
 }
+
+-- the length of a text that is known
+abbrev pub text_hint : List ℕ → LengthHint
+text_hint text = exact (byte_length text)
+
+-- ---- laws
+
+-- a length lies in its own exact hint
+pub Hinted-exact : (n : ℕ) → Hinted (exact n) n
+Hinted-exact n = record { lower = omega arith; upper = omega arith }
+
+-- every length lies in the undefined hint
+pub Hinted-undefined : (n : ℕ) → Hinted undefined n
+Hinted-undefined n = record { lower = omega arith; upper = tt }

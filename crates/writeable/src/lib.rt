@@ -4,6 +4,7 @@
 #![tactic(auto)]
 
 mod hint;
+mod part;
 mod sink;
 mod slice_source;
 mod source;
@@ -13,6 +14,7 @@ mod text;
 mod value;
 
 pub use hint::{LengthHint, replaced_hint, sum_hints, sum_lengths};
+pub use part::{Part, PartsWrite};
 pub use sink::{Sink, SinkError};
 pub use slice_source::SliceSource;
 pub use source::{Source, SourceFault};
