@@ -1,6 +1,7 @@
 -- Marked texts: characters, and the marks that open and close parts.
 use Rattle.std.specs.Prelude.{◌≡◌, ℕ, ◌+◌, List, [], ◌∷◌, ◌++◌, map, chars, Option, Some, None}
 use Rattle.std.proofs.Common.{refl, sym, ap, ◌∙◌, append_assoc, append-nil, subst, arith}
+use Rattle.writeable.specs.Sink.{TookPrefix}
 use Rattle.writeable.specs.declared.part.Part.{Part}
 
 -- what a part is called: its category and its value
@@ -72,6 +73,10 @@ characters-append (Character c ∷ a) b = ap (λ cs. c ∷ cs) (characters-appen
 characters-append (Open _ ∷ a) b = characters-append a b
 characters-append (Close ∷ a) b = characters-append a b
 
+-- two marked texts, and the texts that they are of
+pub characters-both : {s t : List ℕ} (a b : List Mark) → characters a ≡ s → characters b ≡ t → characters (a ++ b) ≡ s ++ t
+characters-both a b p q = let both = characters-append a b in cc
+
 pub plain-append : (s t : List ℕ) → plain (s ++ t) ≡ plain s ++ plain t
 plain-append [] t = refl
 plain-append (c ∷ s) t = ap (λ ms. Character c ∷ ms) (plain-append s t)
@@ -126,3 +131,14 @@ Nests-balanced (Open name ∷ _) (part _ inner marks ni nm) =
     let closed = closings-append inner (Close ∷ marks) in
     omega arith
 Nests-balanced (Close ∷ _) n = elim n [ ]
+
+-- a front of a text is a front of the marked text of its characters
+pub front_of_marks : {S : Type 0} (took : S → List ℕ → S → Type 0) (took_marks : S → List Mark → S → Type 0) (a b : S) (text : List ℕ)
+    → ((a b : S) (t : List ℕ) → took a t b → took_marks a (plain t) b)
+    → TookPrefix took a text b → TookPrefix took_marks a (plain text) b
+front_of_marks took took_marks a b text both p = record {
+  front = plain p.front;
+  rest = plain p.rest;
+  parts = sym (plain-append p.front p.rest) ∙ ap plain p.parts;
+  taken = both a b p.front p.taken;
+}

@@ -1,5 +1,5 @@
-ghost use Rattle.std.specs.Prelude.{◌≡◌, ℕ, ◌+◌, ◌*◌, ◌↔◌, Some, IsTrue};
-ghost use Rattle.writeable.specs.Hint.{Hinted, undefined, exact, at_least, at_most, between, hint_sum, hint_times, hint_either, hint_total, length_total, hint_capacity, hint_rule};
+ghost use Rattle.std.specs.Prelude.{◌≡◌, ℕ, ◌+◌, ◌*◌, ◌↔◌, Some, IsTrue, chars};
+ghost use Rattle.writeable.specs.Hint.{Hinted, undefined, exact, at_least, at_most, between, hint_sum, hint_times, hint_either, hint_total, length_total, hint_capacity, hint_rule, text_hint};
 
 use std::ops::{Add, AddAssign, BitOr, BitOrAssign, Mul, MulAssign};
 
@@ -23,6 +23,13 @@ impl LengthHint {
         ensures { result ≡ exact n }
     {
         LengthHint(n, Some(n))
+    }
+
+    /// The length of this text.
+    pub fn of(text: &str) -> LengthHint
+        ensures { result ≡ text_hint (chars text.now) }
+    {
+        LengthHint::exact(text.len())
     }
 
     /// The length is `n` or more.
@@ -186,11 +193,7 @@ pub fn sum_lengths(lengths: &[usize]) -> LengthHint
 }
 
 /// The hint of a text in which each needle of `needle_len` bytes is replaced by one text.
-pub fn replaced_hint(
-    source: LengthHint,
-    needle_len: usize,
-    replacement: LengthHint,
-) -> LengthHint
+pub fn replaced_hint(source: LengthHint, needle_len: usize, replacement: LengthHint) -> LengthHint
     ensures { result ≡ hint_rule source needle_len replacement }
 {
     LengthHint(

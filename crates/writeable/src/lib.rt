@@ -3,7 +3,9 @@
 //! A [`Writeable`] value means one text and writes it, piece by piece, to a [`Sink`].
 #![tactic(auto)]
 
+pub mod adapters;
 mod hint;
+mod impls;
 mod part;
 mod sink;
 mod slice_source;
@@ -14,6 +16,7 @@ mod text;
 mod value;
 
 pub use hint::{LengthHint, replaced_hint, sum_hints, sum_lengths};
+pub use impls::Text;
 pub use part::{Part, PartsWrite};
 pub use sink::{Sink, SinkError};
 pub use slice_source::SliceSource;

@@ -1,6 +1,6 @@
 ghost use Rattle.std.specs.Prelude.{◌≡◌, ◌≢◌, ℕ, ◌≤◌, [], ◌∷◌, ◌++◌, List, Bool, Option, Some, OnOk, OnErr, codes, chars};
-ghost use Rattle.writeable.specs.Sink.{HasCause};
-ghost use Rattle.writeable.specs.Marks.{Mark, Open, Close, PartName, part_name, plain, characters, Opens};
+ghost use Rattle.writeable.specs.Sink.{HasCause, TookPrefix, front_of_longer, front_after};
+ghost use Rattle.writeable.specs.Marks.{Mark, Open, Close, PartName, part_name, plain, characters, Opens, front_of_marks};
 
 use crate::{Sink, SinkError};
 
@@ -53,4 +53,11 @@ pub trait PartsWrite: Sink {
     ghost marks_memory: { (a b : Self) (m : List Mark) → took_marks a m b → Self.takes_memory b ≡ Self.takes_memory a };
 
     ghost marks_open: { (a b : Self) (m : List Mark) → took_marks a m b → Opens (open_parts a) m (open_parts b) };
+
+    /// A front of a text is a front of the marked text of its characters.
+    ghost marks_of_front: { (a b : Self) (t : List ℕ) → TookPrefix Self.took a t b → TookPrefix took_marks a (plain t) b } = { λ a b t p. front_of_marks Self.took took_marks a b t marks_of_text p };
+
+    ghost marks_front_longer: { (a b : Self) (s t : List Mark) → TookPrefix took_marks a s b → TookPrefix took_marks a (s ++ t) b } = { λ a b s t p. front_of_longer s t p };
+
+    ghost marks_front_behind: { (a b c : Self) (s t : List Mark) → took_marks a s b → TookPrefix took_marks b t c → TookPrefix took_marks a (s ++ t) c } = { λ a b c s t p q. front_after s t marks_both p q };
 }
