@@ -1,3 +1,5 @@
+pub mod Hint
+pub mod Marks
 pub mod Sink
 pub mod SliceSource
 pub mod StdSource

@@ -33,3 +33,26 @@ append_held a b t h p q = let same : a ≡ h = cc in ap Some (p ∙ ap (λ l. l 
 
 pub later_both : (a b c : ℕ) → a ≤ b → b ≤ c → a ≤ c
 later_both a b c p q = omega arith
+
+-- ---- what was taken of two texts
+
+-- a front of a text is a front of what begins with it
+pub front_of_longer : {S A : Type 0} {took : S → List A → S → Type 0} {a b : S} (s t : List A)
+    → TookPrefix took a s b → TookPrefix took a (s ++ t) b
+front_of_longer s t p = record {
+  front = p.front;
+  rest = p.rest ++ t;
+  parts = sym (append_assoc p.front p.rest t) ∙ ap (λ l. l ++ t) p.parts;
+  taken = p.taken;
+}
+
+-- a text, and then a front of another
+pub front_after : {S A : Type 0} {took : S → List A → S → Type 0} {a b c : S} (s t : List A)
+    → ((a b c : S) (s t : List A) → took a s b → took b t c → took a (s ++ t) c)
+    → took a s b → TookPrefix took b t c → TookPrefix took a (s ++ t) c
+front_after {a} {b} {c} s t both first p = record {
+  front = s ++ p.front;
+  rest = p.rest;
+  parts = append_assoc s p.front p.rest ∙ ap (λ l. s ++ l) p.parts;
+  taken = both a b c s p.front first p.taken;
+}

@@ -3,6 +3,10 @@
 //! A [`Writeable`] value means one text and writes it, piece by piece, to a [`Sink`].
 #![tactic(auto)]
 
+pub mod adapters;
+mod hint;
+mod impls;
+mod part;
 mod sink;
 mod slice_source;
 mod source;
@@ -11,6 +15,9 @@ mod string_sink;
 mod text;
 mod value;
 
+pub use hint::{LengthHint, replaced_hint, sum_hints, sum_lengths};
+pub use impls::Text;
+pub use part::{Part, PartsWrite};
 pub use sink::{Sink, SinkError};
 pub use slice_source::SliceSource;
 pub use source::{Source, SourceFault};

@@ -1,10 +1,10 @@
-ghost use Rattle.std.specs.Prelude.{◌≡◌, ℕ, ◌≤◌, List, [], ◌∷◌, ◌++◌, Bool, true, Some, IsErrOf, OnOk, OnErr, string_bytes};
+ghost use Rattle.std.specs.Prelude.{◌≡◌, ℕ, ◌≤◌, List, [], ◌∷◌, ◌++◌, Bool, true, Some, IfOk, IsErrOf, OnOk, OnErr, string_bytes};
 ghost use Rattle.std.specs.Str.{chars};
 ghost use Rattle.std.proofs.Common.{rules};
 ghost use Rattle.writeable.specs.Sink.{TookPrefix, HasCause, append_nothing, append_both, append_held};
 
 use crate::{Sink, SinkError};
-use std::alloc::Global;
+use std::alloc::{AllocError, Global};
 use std::marker::Model;
 
 /// A sink that holds a text in memory. It never faults.
@@ -30,6 +30,15 @@ impl StringSink {
         StringSink {
             text: String::new(alloc),
         }
+    }
+
+    /// A sink that holds the empty text, and has asked for room for so many bytes.
+    pub(crate) fn with_capacity(alloc: Global, capacity: usize) -> Result<StringSink, AllocError>
+        ensures { IfOk result (λ sink. sink ≡ []) }
+    {
+        Ok(StringSink {
+            text: String::with_capacity(alloc, capacity)?,
+        })
     }
 
     /// The text that it holds.

@@ -21,6 +21,15 @@ impl Model for OwnedText {
 }
 
 impl OwnedText {
+    /// The text without characters. It takes no memory.
+    pub fn empty(alloc: Global) -> OwnedText
+        ensures { result ≡ [] }
+    {
+        OwnedText {
+            text: String::new(alloc),
+        }
+    }
+
     /// A copy of the text.
     pub fn new(alloc: Global, text: &str) -> Result<OwnedText, AllocError>
         ensures ok { IfOk result (λ copy. copy ≡ chars text.now) }

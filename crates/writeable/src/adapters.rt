@@ -1,0 +1,5 @@
+//! Writeable values that are made of others.
+
+mod concat;
+
+pub use concat::Concat;
