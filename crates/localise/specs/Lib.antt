@@ -1,0 +1,5 @@
+pub mod Bundles
+pub mod Chosen
+pub mod Localised
+pub mod Meaning
+pub mod Plain

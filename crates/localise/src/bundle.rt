@@ -1,0 +1,106 @@
+ghost use Rattle.std.specs.Prelude.{◌≡◌, ◌≢◌, Some, None, IfOk, IfErr};
+ghost use Rattle.std.specs.Option.{option_map};
+ghost use Rattle.std.specs.Str.{chars};
+ghost use Rattle.gettext.specs.Mo.{mo_fault};
+ghost use Rattle.gettext.specs.Messages.{same_text};
+ghost use Rattle.localise.specs.Bundles.{KeepsMeaning};
+ghost use Rattle.localise.specs.Chosen.{form_in};
+
+use crate::Request;
+use gettext::{Catalog, Error, Form};
+use std::alloc::Global;
+use std::marker::Model;
+use writeable::OwnedText;
+
+/// The bytes of an MO file. Contracts see them as a list.
+#[derive(Debug, Drop)]
+pub struct MoBytes {
+    bytes: Vec<u8>,
+}
+
+impl Model for MoBytes {
+    ghost use Rattle.std.specs.Prelude.{ℕ, List};
+
+    ghost Value = { List ℕ };
+
+    ghost view = { λ mo. mo.bytes.items };
+}
+
+impl MoBytes {
+    /// The bytes, without a copy.
+    pub fn from_vec(bytes: Vec<u8>) -> MoBytes
+        ensures { result ≡ bytes.items }
+    {
+        MoBytes { bytes }
+    }
+
+    /// The bytes, without a copy.
+    pub fn into_vec(self) -> Vec<u8>
+        ensures { result.items ≡ self }
+    {
+        self.bytes
+    }
+
+    /// The bytes in order.
+    pub fn as_slice(&self) -> &[u8]
+        ensures { result.now ≡ self.now }
+    {
+        self.bytes.as_slice()
+    }
+}
+
+/// A bundle as it is handed in: the tag of its language and its catalog, not yet read.
+#[derive(Debug, Drop)]
+pub struct BundleText {
+    pub tag: OwnedText,
+    pub mo: MoBytes,
+}
+
+/// A bundle whose catalog is read.
+#[derive(Drop)]
+pub(crate) struct Bundle {
+    locale: OwnedText,
+    catalog: Catalog,
+}
+
+impl Model for Bundle {
+    ghost use Rattle.localise.specs.Meaning.{Meaning};
+
+    ghost Value = { Meaning };
+
+    ghost view = { λ b. record { locale = b.locale; messages = b.catalog.entries.messages } };
+}
+
+impl Bundle {
+    /// Reads the catalog of a bundle.
+    pub(crate) fn read(alloc: Global, text: &BundleText) -> Result<Bundle, Error>
+        ensures ok { IfOk result (KeepsMeaning text.now) }
+        ensures accepted { IfOk result (λ _. mo_fault text.now.mo ≡ None) }
+        ensures err { IfErr result (λ e. e ≢ Error.NoMemory → mo_fault text.now.mo ≡ Some e) }
+    {
+        let catalog = Catalog::parse_bytes(alloc, text.mo.as_slice())?;
+        let locale = OwnedText::new(alloc, text.tag.as_str()).map_err(|_| Error::NoMemory)?;
+        Ok(Bundle { locale, catalog })
+    }
+
+    /// The form that the bundle gives a request in a locale: none where the locale isn't its own.
+    pub(crate) fn form_in(&self, locale: &str, request: &Request) -> Option<Form<'_>> 
+        requires { request.now.context ≡ None }
+        ensures { option_map (λ f. (f.number, chars f.text.now)) result
+            ≡ form_in self.now request.now (chars locale.now) }
+    {
+        if is_same(self.locale.as_str(), locale) {
+            self.catalog
+                .find(None, request.singular.as_str(), request.count)
+        } else {
+            None
+        }
+    }
+}
+
+/// Whether two texts are one.
+pub(crate) fn is_same(a: &str, b: &str) -> bool
+    ensures { result ≡ same_text (chars a.now) (chars b.now) }
+{
+    a == b
+}

@@ -1,0 +1,5 @@
+pub mod Objects
+pub mod Outcomes
+pub mod Output
+pub mod Plainness
+pub mod Values

@@ -1,0 +1,8 @@
+-- What a document says.
+use Rattle.std.specs.Prelude.{List}
+use Rattle.localise.specs.declared.bundle.BundleText.{BundleText}
+use Rattle.localise.specs.declared.request.Request.{Request}
+
+pub record Contents : Type 0 where
+  pub bundles : List BundleText
+  pub requests : List Request

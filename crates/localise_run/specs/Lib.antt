@@ -1,0 +1,5 @@
+pub mod Code
+pub mod Contents
+pub mod Document
+pub mod Reading
+pub mod Run

@@ -1,0 +1,145 @@
+-- What a run means: the one answer of a document, and the lines that are appended.
+use Rattle.std.specs.Prelude.{◌≡◌, ◌≢◌, ℕ, ◌+◌, ◌≤◌, ◌<◌, ◌⊎◌, List, [], ◌∷◌, ◌++◌, length, map, codes, Option, Some, None, IfSome, Bool, true, String, string_bytes, nat_le, if◌then◌else◌}
+use Rattle.std.specs.declared.alloc.Global.{Global}
+use Rattle.writeable.specs.Sink.{TookPrefix, Rose}
+use Rattle.gettext.specs.declared.error.Error.{Error}
+use Rattle.gettext.specs.declared.error.Error.TheVariants as mo
+use Rattle.localise.specs.declared.bundle.BundleText.{BundleText}
+use Rattle.localise.specs.declared.request.Request.{Request}
+use Rattle.localise.specs.declared.error.BundleCause.{BundleCause}
+use Rattle.localise.specs.declared.error.BundleCause.TheVariants.{Mo}
+use Rattle.localise.specs.declared.error.RenderError.{RenderError}
+use Rattle.localise.specs.declared.error.RenderError.TheVariants as refusals
+use Rattle.localise.specs.Bundles.{AllMean, refusal}
+use Rattle.localise.specs.Chosen.{localised}
+use Rattle.localise.specs.Meaning.{Meaning}
+use Rattle.serde_json.specs.Data.{Data}
+use Rattle.localise_run.specs.Contents.{Contents}
+use Rattle.localise_run.specs.Document.{json_of, document_of}
+use Rattle.localise_run.specs.declared.status.Status.{Status}
+use Rattle.localise_run.specs.declared.status.Status.TheVariants.{Done, BadWords, NotJson, Bundle, ReadFault, WriteFault, NoMemory, TooLong, NotBuilt}
+
+-- the words are the one command
+abbrev pub IsRender : List (String Global) → Type 0
+IsRender words = map string_bytes words ≡ codes "render" ∷ []
+
+-- the most bytes that are read
+abbrev pub most_bytes : ℕ
+most_bytes = 67_108_864
+
+-- the text that a request gets, and a line feed
+abbrev pub line_of : List Meaning → Request → List ℕ
+line_of bundles q = (localised bundles q).text ++ 10 ∷ []
+
+-- the lines of the requests, in order
+abbrev pub output : List Meaning → List Request → List ℕ
+output bundles [] = []
+output bundles (q ∷ qs) = line_of bundles q ++ output bundles qs
+
+-- ---- what the bytes of the input are
+
+-- the answer to a refusal of the bundles
+abbrev pub bundle_answer : RenderError → Status
+bundle_answer (refusals.Bundle i (Mo mo.NotBuilt)) = NotBuilt
+bundle_answer (refusals.Bundle i (Mo e)) = Bundle i (Mo e)
+bundle_answer refusals.NoMemory = NoMemory
+
+abbrev pub refused_or_done : Option RenderError → Status
+refused_or_done None = Done
+refused_or_done (Some e) = bundle_answer e
+
+abbrev pub answer_to_contents : Option Contents → Status
+answer_to_contents None = NotBuilt
+answer_to_contents (Some d) = refused_or_done (refusal d.bundles)
+
+abbrev pub answer_to_value : Option Data → Status
+answer_to_value None = NotJson
+answer_to_value (Some value) = answer_to_contents (document_of value)
+
+-- The one answer of an input: the first of too long, no JSON, no document that is understood, and a
+-- faulty bundle; or Done.
+abbrev pub answer_of : List ℕ → Status
+answer_of bytes = if nat_le (length bytes) most_bytes then answer_to_value (json_of bytes) else TooLong
+
+-- the bytes are JSON of a document that says this
+pub record IsDocument (bytes : List ℕ) (d : Contents) : Type 0 where
+  pub value : Data
+  pub read : json_of bytes ≡ Some value
+  pub says : document_of value ≡ Some d
+
+-- The bytes are one document, no bundle of which is faulty, and its lines, one for each request in
+-- order, are so.
+pub record Renders (bytes : List ℕ) (AreSo : List ℕ → Type 0) : Type 0 where
+  pub within : length bytes ≤ most_bytes
+  pub contents : Contents
+  pub document : IsDocument bytes contents
+  pub accepted : refusal contents.bundles ≡ None
+  pub bundles : List Meaning
+  pub mean : AllMean contents.bundles bundles
+  pub lines : AreSo (output bundles contents.requests)
+
+-- the output took the lines, and holds them behind what it held, where it tells that
+pub record Appended {O : Type 0} (took : O → List ℕ → O → Type 0) (held : O → Option (List ℕ)) (old : O) (lines : List ℕ) (new : O) : Type 0 where
+  pub taken : took old lines new
+  pub told : (before : List ℕ) → held old ≡ Some before → held new ≡ Some (before ++ lines)
+
+-- ---- kinds of answers
+
+-- a source, an output or memory that failed
+abbrev pub IsFailure : Status → Type 0
+IsFailure ReadFault = Unit {0}
+IsFailure WriteFault = Unit {0}
+IsFailure NoMemory = Unit {0}
+IsFailure _ = ⊥
+
+-- before any line is written
+abbrev pub IsRefusal : Status → Type 0
+IsRefusal Done = ⊥
+IsRefusal WriteFault = ⊥
+IsRefusal NoMemory = ⊥
+IsRefusal _ = Unit {0}
+
+-- once the source was read to its end
+abbrev pub ComesAtEnd : Status → Type 0
+ComesAtEnd BadWords = ⊥
+ComesAtEnd ReadFault = ⊥
+ComesAtEnd TooLong = ⊥
+ComesAtEnd NoMemory = ⊥
+ComesAtEnd _ = Unit {0}
+
+-- ---- how the steps of a run fail
+
+-- reading the document: no JSON, or none that is understood
+abbrev pub IsMisread : Option Data → Status → Type 0
+IsMisread json NoMemory = Unit {0}
+IsMisread json NotJson = json ≡ None
+IsMisread json NotBuilt = (value : Data) × (json ≡ Some value) × (document_of value ≡ None)
+IsMisread json _ = ⊥
+
+-- reading the bundles' catalogs
+abbrev pub IsRefused : List BundleText → Status → Type 0
+IsRefused bundles NoMemory = Unit {0}
+IsRefused bundles NotBuilt = refused_or_done (refusal bundles) ≡ NotBuilt
+IsRefused bundles (Bundle i cause) = refused_or_done (refusal bundles) ≡ Bundle i cause
+IsRefused bundles _ = ⊥
+
+-- rendering: nothing is written before a refusal, and a front of the lines before an output or memory fails
+abbrev pub FailsToRender : {O : Type 0} (took : O → List ℕ → O → Type 0) (bytes : List ℕ) (before now : ℕ) (old new : O) → Status → Type 0
+FailsToRender took bytes before now old new NoMemory = (new ≡ old) ⊎ Renders bytes (λ lines. TookPrefix took old lines new)
+FailsToRender took bytes before now old new WriteFault = Rose before now × Renders bytes (λ lines. TookPrefix took old lines new)
+FailsToRender took bytes before now old new NotJson = (new ≡ old) × (answer_of bytes ≡ NotJson)
+FailsToRender took bytes before now old new NotBuilt = (new ≡ old) × (answer_of bytes ≡ NotBuilt)
+FailsToRender took bytes before now old new (Bundle i cause) = (new ≡ old) × (answer_of bytes ≡ Bundle i cause)
+FailsToRender took bytes before now old new _ = ⊥
+
+-- what holds under each answer once the words are a command
+abbrev pub Outcome : {O : Type 0} (left : Option (List ℕ)) (read_before read_now : ℕ) (ended : Bool) (took : O → List ℕ → O → Type 0) (written_before written_now : ℕ) (old new : O) → Status → Type 0
+Outcome left rb rn ended took wb wn old new Done = (ended ≡ true) × IfSome left (λ bytes. Renders bytes (λ lines. took old lines new))
+Outcome left rb rn ended took wb wn old new WriteFault = (ended ≡ true) × Rose wb wn × IfSome left (λ bytes. Renders bytes (λ lines. TookPrefix took old lines new))
+Outcome left rb rn ended took wb wn old new NoMemory = (new ≡ old) ⊎ IfSome left (λ bytes. Renders bytes (λ lines. TookPrefix took old lines new))
+Outcome left rb rn ended took wb wn old new ReadFault = Rose rb rn × (new ≡ old)
+Outcome left rb rn ended took wb wn old new TooLong = (new ≡ old) × IfSome left (λ bytes. answer_of bytes ≡ TooLong)
+Outcome left rb rn ended took wb wn old new NotJson = (ended ≡ true) × (new ≡ old) × IfSome left (λ bytes. answer_of bytes ≡ NotJson)
+Outcome left rb rn ended took wb wn old new NotBuilt = (ended ≡ true) × (new ≡ old) × IfSome left (λ bytes. answer_of bytes ≡ NotBuilt)
+Outcome left rb rn ended took wb wn old new (Bundle i cause) = (ended ≡ true) × (new ≡ old) × IfSome left (λ bytes. answer_of bytes ≡ Bundle i cause)
+Outcome left rb rn ended took wb wn old new BadWords = ⊥
