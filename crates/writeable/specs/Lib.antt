@@ -1,5 +1,8 @@
+pub mod CountSink
 pub mod Hint
 pub mod Marks
+pub mod ScriptSink
+pub mod ScriptSource
 pub mod Sink
 pub mod SliceSource
 pub mod StdSource

@@ -4,9 +4,13 @@
 #![tactic(auto)]
 
 pub mod adapters;
+mod count_sink;
+mod fixed_sink;
 mod hint;
 mod impls;
 mod part;
+mod script_sink;
+mod script_source;
 mod sink;
 mod slice_source;
 mod source;
@@ -15,9 +19,13 @@ mod string_sink;
 mod text;
 mod value;
 
+pub use count_sink::CountSink;
+pub use fixed_sink::FixedSink;
 pub use hint::{LengthHint, replaced_hint, sum_hints, sum_lengths};
 pub use impls::Text;
 pub use part::{Part, PartsWrite};
+pub use script_sink::ScriptSink;
+pub use script_source::ScriptSource;
 pub use sink::{Sink, SinkError};
 pub use slice_source::SliceSource;
 pub use source::{Source, SourceFault};
