@@ -1,3 +1,4 @@
 pub mod Hints
+pub mod Opened
 pub mod Taking
 pub mod Texts

@@ -1,8 +1,11 @@
 pub mod CountSink
 pub mod Hint
 pub mod Marks
+pub mod PartsFields
+pub mod PartsSink
 pub mod ScriptSink
 pub mod ScriptSource
 pub mod Sink
 pub mod SliceSource
+pub mod Spans
 pub mod StdSource

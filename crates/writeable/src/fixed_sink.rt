@@ -17,12 +17,15 @@ pub struct FixedSink<const N: usize> {
 }
 
 impl<const N: usize> Model for FixedSink<N> {
-    ghost use Rattle.std.specs.Str.{chars};
+    ghost use Rattle.std.specs.Prelude.{◌≡◌, true};
+    ghost use Rattle.std.specs.Str.{chars, is_utf8};
     ghost use Rattle.writeable.specs.Sink.{Holding};
 
     ghost Value = { Holding };
 
     ghost view = { λ s. record { text = chars s.text.bytes; faults = s.faults } };
+
+    ghost invariant = { λ s. is_utf8 s.text.bytes ≡ true };
 }
 
 impl<const N: usize> FixedSink<N> {

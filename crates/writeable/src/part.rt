@@ -19,6 +19,14 @@ impl Part {
     };
 }
 
+/// A part of a text and the bytes of the text that it spans: from `start` on, up to `end`.
+#[derive(Clone, Copy, Debug)]
+pub struct PartSpan {
+    pub start: usize,
+    pub end: usize,
+    pub part: Part,
+}
+
 /// A sink that takes marked texts too: texts in which parts open and close.
 pub trait PartsWrite: Sink {
     /// The sink before, the marked text that it took, and the sink after.
