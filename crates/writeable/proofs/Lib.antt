@@ -1,4 +1,5 @@
 pub mod Hints
 pub mod Opened
+pub mod SpansOf
 pub mod Taking
 pub mod Texts

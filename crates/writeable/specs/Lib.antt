@@ -1,5 +1,6 @@
 pub mod CountSink
 pub mod Hint
+pub mod Inside
 pub mod Marks
 pub mod PartsFields
 pub mod PartsSink
