@@ -46,7 +46,7 @@ reached-close _ sink now (_ ∷ _) e text (one front inner start part others ni 
     let is : parts sink.text others (sink.spans ++ span_unless_empty start (byte_length sink.text) part) ≡ now = cc in
     let regroup : front ++ inside part inner ≡ (front ++ Open part ∷ inner) ++ Close ∷ [] = sym (append_assoc front (Open part ∷ inner) (Close ∷ [])) in
     let ends : sink.text ≡ characters (front ++ inner) =
-        text ∙ characters-append front (Open part ∷ inner) ∙ sym (characters-append front inner) in
+    text ∙ characters-append front (Open part ∷ inner) ∙ sym (characters-append front inner) in
     subst (Reached ((front ++ Open part ∷ inner) ++ Close ∷ [])) is record {
       text = text ∙ sym (characters-append (front ++ Open part ∷ inner) (Close ∷ []) ∙ append-nil _);
       begun = subst (λ ms. OpenAre ms others) regroup (OpenAre-append front others (inside part inner) (Nests-inside part inner ni) rest);

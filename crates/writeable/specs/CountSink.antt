@@ -22,5 +22,5 @@ Counts-nothing a = grind (arith, common_steps)
 pub Counts-both : (a b c : ℕ) (s t : List ℕ) → Counts a s b → Counts b t c → Counts a (s ++ t) c
 Counts-both a b c s t p q =
     let bytes : byte_length (s ++ t) ≡ byte_length s + byte_length t =
-        ap length (encodes-append s t) ∙ length-append (encode_utf8_all s) (encode_utf8_all t) in
+    ap length (encodes-append s t) ∙ length-append (encode_utf8_all s) (encode_utf8_all t) in
     q ∙ ap (λ n. counted n (byte_length t)) p ∙ counted-both a (byte_length s) (byte_length t) ∙ ap (counted a) (sym bytes)

@@ -26,4 +26,4 @@ pub data Spans : List Mark → List Span → Type 0 where
   closing : (part : PartName) (front inner : List Mark) (spans : List Span)
       → Spans (front ++ Open part ∷ inner) spans → Nests inner
       → Spans (front ++ inside part inner)
-          (spans ++ span_unless_empty (byte_length (characters front)) (byte_length (characters (front ++ inner))) part)
+      (spans ++ span_unless_empty (byte_length (characters front)) (byte_length (characters (front ++ inner))) part)

@@ -1,7 +1,9 @@
 //! The types of std that are writeable.
 
 mod character;
+mod either;
 mod pointers;
+mod strings;
 mod texts;
 
 pub use texts::Text;
