@@ -1,9 +1,8 @@
 -- A count of bytes that ends at the greatest number of 64 bits.
-use Rattle.std.specs.Prelude.{◌≡◌, ℕ, ◌+◌, ◌-◌, ◌^◌, ◌≤◌, min, max, List, [], ◌++◌, length, encode_utf8_all}
-use Rattle.std.proofs.Common.{arith, sym, ap, ◌∙◌, length-append}
+use Rattle.std.specs.Prelude.{◌≡◌, ℕ, ◌+◌, ◌-◌, ◌^◌, ◌≤◌, min, max, List, [], ◌++◌}
+use Rattle.std.proofs.Common.{arith, sym, ap, ◌∙◌}
 use Rattle.std.proofs.lemmas.Grind.{common_steps}
-use Rattle.std.proofs.lemmas.Str.{encodes-append}
-use Rattle.writeable.specs.Hint.{byte_length}
+use Rattle.writeable.specs.Hint.{byte_length, byte_length-append}
 
 -- the count, so many bytes later: it stops at the greatest number, and never falls
 abbrev pub counted : ℕ → ℕ → ℕ
@@ -21,6 +20,4 @@ Counts-nothing a = grind (arith, common_steps)
 
 pub Counts-both : (a b c : ℕ) (s t : List ℕ) → Counts a s b → Counts b t c → Counts a (s ++ t) c
 Counts-both a b c s t p q =
-    let bytes : byte_length (s ++ t) ≡ byte_length s + byte_length t =
-    ap length (encodes-append s t) ∙ length-append (encode_utf8_all s) (encode_utf8_all t) in
-    q ∙ ap (λ n. counted n (byte_length t)) p ∙ counted-both a (byte_length s) (byte_length t) ∙ ap (counted a) (sym bytes)
+    q ∙ ap (λ n. counted n (byte_length t)) p ∙ counted-both a (byte_length s) (byte_length t) ∙ ap (counted a) (sym (byte_length-append s t))

@@ -2,6 +2,7 @@ pub mod CountSink
 pub mod Hint
 pub mod Inside
 pub mod Marks
+pub mod Outcome
 pub mod PartsFields
 pub mod PartsSink
 pub mod ScriptSink
@@ -10,3 +11,4 @@ pub mod Sink
 pub mod SliceSource
 pub mod Spans
 pub mod StdSource
+pub mod TryConcat

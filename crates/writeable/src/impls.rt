@@ -2,6 +2,7 @@
 
 mod character;
 mod either;
+mod outcome;
 mod pointers;
 mod strings;
 mod texts;

@@ -18,6 +18,7 @@ mod source;
 mod standard;
 mod string_sink;
 mod text;
+mod try_value;
 mod value;
 
 pub use count_sink::CountSink;
@@ -34,4 +35,5 @@ pub use source::{Source, SourceFault};
 pub use standard::{StdSink, StdSource};
 pub use string_sink::StringSink;
 pub use text::{OwnedText, TextList, TextRow};
+pub use try_value::TryWriteable;
 pub use value::Writeable;
