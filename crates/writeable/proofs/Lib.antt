@@ -1,3 +1,4 @@
+pub mod Comparing
 pub mod Hints
 pub mod Opened
 pub mod SpansOf

@@ -1,3 +1,4 @@
+pub mod Comparing
 pub mod CountSink
 pub mod Hint
 pub mod Inside

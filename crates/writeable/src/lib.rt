@@ -4,6 +4,8 @@
 #![tactic(auto)]
 
 pub mod adapters;
+mod compare;
+mod concat_macro;
 mod count_sink;
 mod fixed_sink;
 mod hint;
@@ -21,6 +23,7 @@ mod text;
 mod try_value;
 mod value;
 
+pub use compare::{cmp_str, cmp_utf8};
 pub use count_sink::CountSink;
 pub use fixed_sink::FixedSink;
 pub use hint::{LengthHint, replaced_hint, sum_hints, sum_lengths};
