@@ -2,9 +2,12 @@
 
 mod character;
 mod either;
+mod numbers;
 mod outcome;
 mod pointers;
+mod signed;
 mod strings;
 mod texts;
+mod unsigned;
 
 pub use texts::Text;
