@@ -1,3 +1,6 @@
+pub mod Comparing
 pub mod Hints
+pub mod Opened
+pub mod SpansOf
 pub mod Taking
 pub mod Texts

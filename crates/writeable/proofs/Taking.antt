@@ -1,4 +1,5 @@
 -- How what a sink took, and where its refusals come from, composes over several calls.
+use Rattle.std.specs.Prelude.{Ok, Err, OnErr}
 use Rattle.std.proofs.Common.{◌≡◌, ℕ, ◌≤◌, List, ◌++◌, Bool, Result, ap, ◌∙◌, sym, append_assoc, append-nil, arith, []}
 use Rattle.writeable.specs.Sink.{TookPrefix, HasCause, Rose}
 pub use Rattle.writeable.specs.Sink.{front_of_longer, front_after}
@@ -19,3 +20,8 @@ cause_earlier {a} {b} {c} r le same cause = record {
   fault = λ is. rose_earlier a b c le (cause.fault is);
   no_memory = λ is. sym same ∙ cause.no_memory is;
 }
+
+-- what always holds holds on an error
+pub on_err_always : {T E P : Type 0} (r : Result T E) → P → OnErr r P
+on_err_always (Ok x) p = tt
+on_err_always (Err e) p = p

@@ -1,5 +1,5 @@
 -- Hints on the length of a text in UTF-8: a lower bound, and an upper bound where there is one.
-use Rattle.std.specs.Prelude.{ℕ, ◌+◌, ◌-◌, ◌*◌, ◌++◌, ◌^◌, ◌≤◌, min, max, nat_le, if◌then◌else◌, List, length, Option, Some, None, IfSome, option_and_then, encode_utf8_all, unwrap_or, fold}
+use Rattle.std.specs.Prelude.{◌≡◌, ℕ, ◌+◌, ◌-◌, ◌*◌, ◌++◌, ◌^◌, ◌≤◌, min, max, nat_le, if◌then◌else◌, List, length, Option, Some, None, IfSome, option_and_then, encode_utf8_all, unwrap_or, fold}
 use Rattle.std.proofs.Common.{arith, subst, sym, ap, ◌∙◌, length-append}
 use Rattle.std.proofs.lemmas.Grind.{common_steps}
 use Rattle.std.proofs.lemmas.Str.{encodes-append}
@@ -97,7 +97,10 @@ Hinted-undefined n = record { lower = omega arith; upper = tt }
 pub Hinted-sum : (a b : LengthHint) (x y : ℕ) → Hinted a x → Hinted b y → Hinted (hint_sum a b) (x + y)
 Hinted-sum a b x y p q = grind (arith, common_steps)
 
+pub byte_length-append : (s t : List ℕ) → byte_length (s ++ t) ≡ byte_length s + byte_length t
+byte_length-append s t = ap length (encodes-append s t) ∙ length-append (encode_utf8_all s) (encode_utf8_all t)
+
 pub Hinted-append : (a b : LengthHint) (s t : List ℕ) → Hinted a (byte_length s) → Hinted b (byte_length t) → Hinted (hint_sum a b) (byte_length (s ++ t))
 Hinted-append a b s t p q =
-    subst (Hinted (hint_sum a b)) (sym (ap length (encodes-append s t) ∙ length-append (encode_utf8_all s) (encode_utf8_all t)))
+    subst (Hinted (hint_sum a b)) (sym (byte_length-append s t))
     (Hinted-sum a b (byte_length s) (byte_length t) p q)

@@ -1,5 +1,15 @@
+pub mod Comparing
+pub mod CountSink
 pub mod Hint
+pub mod Inside
 pub mod Marks
+pub mod Outcome
+pub mod PartsFields
+pub mod PartsSink
+pub mod ScriptSink
+pub mod ScriptSource
 pub mod Sink
 pub mod SliceSource
+pub mod Spans
 pub mod StdSource
+pub mod TryConcat

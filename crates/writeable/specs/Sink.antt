@@ -56,3 +56,24 @@ front_after {a} {b} {c} s t both first p = record {
   parts = append_assoc s p.front p.rest ∙ ap (λ l. s ++ l) p.parts;
   taken = both a b c s p.front first p.taken;
 }
+
+-- ---- sinks that hold a text and count their faults
+
+-- what a contract sees of such a sink
+pub record Holding : Type 0 where
+  pub text : List ℕ
+  pub faults : ℕ
+
+-- the text grew by what was taken, and faults may have come meanwhile
+pub record Grew (old : Holding) (piece : List ℕ) (new : Holding) : Type 0 where
+  pub text : new.text ≡ old.text ++ piece
+  pub later : old.faults ≤ new.faults
+
+pub Grew-nothing : (s : Holding) → Grew s [] s
+Grew-nothing s = record { text = append_nothing s.text; later = omega arith }
+
+pub Grew-both : (a b c : Holding) (s t : List ℕ) → Grew a s b → Grew b t c → Grew a (s ++ t) c
+Grew-both a b c s t p q = record {
+  text = append_both a.text b.text c.text s t p.text q.text;
+  later = omega (arith, p.later, q.later);
+}

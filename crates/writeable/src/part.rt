@@ -1,6 +1,7 @@
 ghost use Rattle.std.specs.Prelude.{◌≡◌, ◌≢◌, ℕ, ◌≤◌, [], ◌∷◌, ◌++◌, List, Bool, Option, Some, OnOk, OnErr, codes, chars};
 ghost use Rattle.writeable.specs.Sink.{HasCause, TookPrefix, front_of_longer, front_after};
-ghost use Rattle.writeable.specs.Marks.{Mark, Open, Close, PartName, part_name, plain, characters, Opens, front_of_marks};
+ghost use Rattle.writeable.specs.Marks.{Mark, Open, Close, PartName, part_name, plain, characters, Opens, Nests, inside, front_of_marks};
+ghost use Rattle.writeable.specs.Inside.{taken_inside, front_inside, front_unclosed, still_open};
 
 use crate::{Sink, SinkError};
 
@@ -17,6 +18,14 @@ impl Part {
         category: "writeable",
         value: "error",
     };
+}
+
+/// A part of a text and the bytes of the text that it spans: from `start` on, up to `end`.
+#[derive(Clone, Copy, Debug)]
+pub struct PartSpan {
+    pub start: usize,
+    pub end: usize,
+    pub part: Part,
 }
 
 /// A sink that takes marked texts too: texts in which parts open and close.
@@ -60,4 +69,14 @@ pub trait PartsWrite: Sink {
     ghost marks_front_longer: { (a b : Self) (s t : List Mark) → TookPrefix took_marks a s b → TookPrefix took_marks a (s ++ t) b } = { λ a b s t p. front_of_longer s t p };
 
     ghost marks_front_behind: { (a b c : Self) (s t : List Mark) → took_marks a s b → TookPrefix took_marks b t c → TookPrefix took_marks a (s ++ t) c } = { λ a b c s t p q. front_after s t marks_both p q };
+
+    /// A marked text inside one part, and its fronts.
+    ghost marks_inside: { (a b c d : Self) (part : PartName) (m : List Mark) → took_marks a (Open part ∷ []) b → took_marks b m c → took_marks c (Close ∷ []) d → took_marks a (inside part m) d } = { taken_inside took_marks marks_both };
+
+    ghost marks_front_inside: { (a b c : Self) (part : PartName) (m : List Mark) → took_marks a (Open part ∷ []) b → TookPrefix took_marks b m c → TookPrefix took_marks a (inside part m) c } = { front_inside took_marks marks_both };
+
+    ghost marks_front_unclosed: { (a b c d : Self) (part : PartName) (m : List Mark) → took_marks a (Open part ∷ []) b → took_marks b m c → took_marks c [] d → TookPrefix took_marks a (inside part m) d } = { front_unclosed took_marks marks_both };
+
+    /// Behind an opening mark and marks that nest a part is open, where that is told.
+    ghost marks_still_open: { (a b c : Self) (part : PartName) (m : List Mark) → took_marks a (Open part ∷ []) b → Nests m → took_marks b m c → open_parts c ≢ Some 0 } = { λ a b c part m p nests q. still_open (open_parts a) (open_parts b) (open_parts c) part m (marks_open a b (Open part ∷ []) p) nests (marks_open b c m q) };
 }
