@@ -1,0 +1,5 @@
+//! Worked rows, through the public calls.
+#![tactic(auto)]
+
+#[cfg(test)]
+mod program;
