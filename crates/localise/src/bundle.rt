@@ -84,7 +84,7 @@ impl Bundle {
     }
 
     /// The form that the bundle gives a request in a locale: none where the locale isn't its own.
-    pub(crate) fn form_in(&self, locale: &str, request: &Request) -> Option<Form<'_>> 
+    pub(crate) fn form_in(&self, locale: &str, request: &Request) -> Option<Form<'_>>
         requires { request.now.context ≡ None }
         ensures { option_map (λ f. (f.number, chars f.text.now)) result
             ≡ form_in self.now request.now (chars locale.now) }

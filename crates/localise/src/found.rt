@@ -6,7 +6,6 @@ ghost use Rattle.writeable.specs.Marks.{plain, characters-plain, Nests-plain};
 
 use crate::Request;
 use gettext::Form;
-
 use std::marker::Model;
 use writeable::{LengthHint, PartsWrite, Sink, SinkError, Writeable};
 

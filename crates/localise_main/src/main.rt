@@ -2,11 +2,10 @@
 #![tactic(auto)]
 
 use localise_run::{Status, run};
-use std::env;
-use std::io;
 use std::io::{BufWriter, ErrorKind, Write};
 use std::process::ExitCode;
 use std::rt::Env;
+use std::{env, io};
 use writeable::{StdSink, StdSource};
 
 /// How much output is gathered before it is written.

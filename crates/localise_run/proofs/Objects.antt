@@ -29,7 +29,6 @@ members_view-remove_entry name (e ∷ es) =
     ∙ ap (λ b. cond b (members_view es) (member (string_bytes e.0) (view e.1) (members_view (remove_entry (is_at (λ k. slice_cmp nat_cmp name (string_bytes k))) es)))) (is_eq-slice_cmp name (string_bytes e.0))
     ∙ ap (λ rest. cond (bytes_eq name (string_bytes e.0)) (members_view es) (member (string_bytes e.0) (view e.1) rest)) (members_view-remove_entry name es)
 
-
 differ : (o : Ordering) (d : Data) (found : Option Data) → is_eq o ≡ false → found ≡ match_ordering o found (Some d) found
 differ Less d found h = refl
 differ Equal d found h = absurd (true≢false h)

@@ -93,7 +93,7 @@ module _ {O : Type 0} (left : Option (List ℕ)) (rb rn : ℕ) (ended : Bool) (t
   headline_of held law ends =
       some_map (λ bytes. Renders bytes (λ lines. took old lines new)) (λ bytes. Renders bytes (λ lines. Appended took held old lines new)) left
       (λ bytes r. renders_map bytes (λ lines. took old lines new) (λ lines. Appended took held old lines new)
-        (λ lines t. record { taken = t; told = λ before is. law old new lines before t is }) r)
+      (λ lines t. record { taken = t; told = λ before is. law old new lines before t is }) r)
       ends.1
 
   pub read_to_end_of : (s : Status) → Ends s → ComesAtEnd s → ended ≡ true
@@ -157,8 +157,8 @@ module _ {O : Type 0} (left : Option (List ℕ)) (rb rn : ℕ) (ended : Bool) (t
   complete_of s ends =
       some_map (λ bytes. (s ≡ answer_of bytes) ⊎ IsFailure s)
       (λ bytes. (d : Contents) → length bytes ≤ most_bytes → IsDocument bytes d → refusal d.bundles ≡ None
-        → (Rose rb rn → ⊥) → (Rose wb wn → ⊥) → (s ≡ Done) ⊎ (s ≡ NoMemory))
+      → (Rose rb rn → ⊥) → (Rose wb wn → ⊥) → (s ≡ Done) ⊎ (s ≡ NoMemory))
       left
       (λ bytes exact d within document accepted read written.
-        done_or_failed s ends bytes (document_answer bytes d within document accepted) exact read written)
+      done_or_failed s ends bytes (document_answer bytes d within document accepted) exact read written)
       (exact_of s ends)

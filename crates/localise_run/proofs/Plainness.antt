@@ -10,7 +10,6 @@ use Rattle.serde_json.specs.Find.{as_object, as_array, get_member}
 use Rattle.localise_run.specs.Contents.{Contents}
 use Rattle.localise_run.specs.Document.{checked, tag_of, text_of, count_of, member_of, each_of, list_of, only, has_only, request_from, request_in, request_of, plain_request, document_in, document_of, document_from, bundle_of, is_few}
 
-
 none_is_some : {A : Type 0} {P : Type 0} (a : A) → None ≡ Some a → P
 none_is_some a e = absurd (let apart : ⊥ = cc in apart)
 
@@ -93,9 +92,10 @@ parts_there None requests d there = none_is_some d there
 in_members : (ms : Members) (d : Contents) → document_in ms ≡ Some d → (length d.bundles ≤ 1) × AllByRecursion IsPlain d.requests
 in_members ms d there =
     let parts = parts_there (checked is_few (member_of (list_of bundle_of) (codes "bundles") ms)) (member_of (list_of request_of) (codes "requests") ms) d
-      (only_is (has_only (codes "bundles" ∷ codes "requests" ∷ []) ms) _ d there) in
-    (leb-true (length d.bundles) 1 (checked_is is_few (member_of (list_of bundle_of) (codes "bundles") ms) d.bundles parts.0),
-    member_plain (get_member (codes "requests") ms) d.requests parts.1)
+    (only_is (has_only (codes "bundles" ∷ codes "requests" ∷ []) ms) _ d there) in (
+      leb-true (length d.bundles) 1 (checked_is is_few (member_of (list_of bundle_of) (codes "bundles") ms) d.bundles parts.0),
+      member_plain (get_member (codes "requests") ms) d.requests parts.1,
+    )
 
 in_object : (o : Option Members) (d : Contents) → option_and_then document_in o ≡ Some d → (length d.bundles ≤ 1) × AllByRecursion IsPlain d.requests
 in_object None d there = none_is_some d there

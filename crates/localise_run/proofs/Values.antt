@@ -25,7 +25,8 @@ pub one_word : (words : List (String Global)) (word : String Global) (text : Lis
     → IsTrue b ↔ (map string_bytes words ≡ text ∷ [])
 one_word [] word text b some few is same = absurd (omega arith)
 one_word (w ∷ []) word text b some few is same =
-    let decides = bytes_eq-Decides (string_bytes word) text in
-    (λ yes. ap (λ t. t ∷ []) (ap string_bytes (sym is) ∙ decides.0 (sym same ∙ yes)),
-    λ all. let there : string_bytes w ≡ text = cc in same ∙ decides.1 (ap string_bytes is ∙ there))
+    let decides = bytes_eq-Decides (string_bytes word) text in (
+      λ yes. ap (λ t. t ∷ []) (ap string_bytes (sym is) ∙ decides.0 (sym same ∙ yes)),
+      λ all. let there : string_bytes w ≡ text = cc in same ∙ decides.1 (ap string_bytes is ∙ there),
+    )
 one_word (w ∷ x ∷ ws) word text b some few is same = absurd (omega arith)

@@ -5,14 +5,13 @@ ghost use Rattle.std.specs.Str.{chars};
 ghost use Rattle.localise.specs.Plain.{is_plain_tag, is_lower_case_letter, IsPlain};
 ghost use Rattle.serde_json.specs.View.{view, members_view, items_view};
 ghost use Rattle.localise_run.specs.Document.{text_of, tag_of, count_of, bytes_of, request_from, request_in, request_of, bundle_from, bundle_in, bundle_of, document_from, document_in, document_of, each_of, list_of, checked, is_few, json_of, member_of, without};
-
 ghost use Rattle.localise_run.specs.Run.{IsDocument, IsMisread};
 
 use crate::Status;
 use crate::members::{is_none_left_in, take_member};
+use hex::FromHexError;
 use localise::{BundleText, MoBytes, Request};
 use serde_json::{Map, Value};
-use hex::FromHexError;
 use std::alloc::{AllocError, Global};
 use std::marker::Model;
 use writeable::{OwnedText, TextList};
@@ -33,7 +32,7 @@ impl Model for Document {
 }
 
 /// Two or three lower-case ASCII letters.
-pub fn is_tag(text: &str) -> bool
+fn is_tag(text: &str) -> bool
     ensures { result ≡ is_plain_tag (chars text.now) }
 {
     has_a_tags_length(text) && is_lower_case(text)
@@ -52,7 +51,7 @@ fn is_lower_case(text: &str) -> bool
     text.chars().all(|c| 'a' <= c && c <= 'z')
 }
 
-pub fn text_from(value: Value) -> Option<OwnedText>
+fn text_from(value: Value) -> Option<OwnedText>
     ensures { result ≡ text_of (view value) }
 {
     match value {
@@ -61,20 +60,24 @@ pub fn text_from(value: Value) -> Option<OwnedText>
     }
 }
 
-pub fn tag_from(value: Value) -> Option<OwnedText>
+fn tag_from(value: Value) -> Option<OwnedText>
     ensures { result ≡ tag_of (view value) }
 {
     let text = text_from(value)?;
-    if is_tag(text.as_str()) { Some(text) } else { None }
+    if is_tag(text.as_str()) {
+        Some(text)
+    } else {
+        None
+    }
 }
 
-pub fn count_from(value: Value) -> Option<u64>
+fn count_from(value: Value) -> Option<u64>
     ensures { result ≡ count_of (view value) }
 {
     value.as_u64()
 }
 
-pub fn bytes_from(alloc: Global, value: Value) -> Result<Option<MoBytes>, AllocError>
+fn bytes_from(alloc: Global, value: Value) -> Result<Option<MoBytes>, AllocError>
     ensures { IfOk result (λ bytes. bytes ≡ bytes_of (view value)) }
 {
     let Some(digits) = value.as_str() else {

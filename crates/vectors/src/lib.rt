@@ -2,4 +2,6 @@
 #![tactic(auto)]
 
 #[cfg(test)]
+mod catalogs;
+#[cfg(test)]
 mod program;

@@ -4,19 +4,25 @@ use localise::BundleCause;
 use localise_run::{Status, run};
 use std::alloc::{AllocError, Global};
 use std::test::Fail;
-use writeable::{ScriptSink, ScriptSource, Sink, SinkError, SliceSource, Source, SourceFault, StringSink};
+use writeable::{
+    ScriptSink, ScriptSource, Sink, SinkError, SliceSource, Source, SourceFault, StringSink,
+};
 
 /// The first document: one French catalog, and a request that it translates.
-const FIRST: &str = "{\"bundles\":[{\"tag\":\"fr\",\"mo\":\"de12049500000000010000001c00000024000000000000002c000000020000002c000000050000002f00000048690053616c757400\"}],\"requests\":[{\"tag\":\"fr\",\"singular\":\"Hi\",\"plural\":\"Hi\",\"count\":1}]}";
+const FIRST: &str =
+    "{\"bundles\":[{\"tag\":\"fr\",\"mo\":\"de12049500000000010000001c00000024000000000000002c000000020000002c000000050000002f00000048690053616c757400\"}],\"requests\":[{\"tag\":\"fr\",\"singular\":\"Hi\",\"plural\":\"Hi\",\"count\":1}]}";
 
 /// The same catalog, a request that it translates, one that it doesn't, and one in another language.
-const IN_ORDER: &str = "{\"bundles\":[{\"tag\":\"fr\",\"mo\":\"de12049500000000010000001c00000024000000000000002c000000020000002c000000050000002f00000048690053616c757400\"}],\"requests\":[{\"tag\":\"fr\",\"singular\":\"Hi\",\"plural\":\"His\",\"count\":1},{\"tag\":\"fr\",\"singular\":\"Bye\",\"plural\":\"Byes\",\"count\":5},{\"tag\":\"de\",\"singular\":\"Hi\",\"plural\":\"His\",\"count\":1}]}";
+const IN_ORDER: &str =
+    "{\"bundles\":[{\"tag\":\"fr\",\"mo\":\"de12049500000000010000001c00000024000000000000002c000000020000002c000000050000002f00000048690053616c757400\"}],\"requests\":[{\"tag\":\"fr\",\"singular\":\"Hi\",\"plural\":\"His\",\"count\":1},{\"tag\":\"fr\",\"singular\":\"Bye\",\"plural\":\"Byes\",\"count\":5},{\"tag\":\"de\",\"singular\":\"Hi\",\"plural\":\"His\",\"count\":1}]}";
 
 /// The catalog without its last byte.
-const CUT: &str = "{\"bundles\":[{\"tag\":\"fr\",\"mo\":\"de12049500000000010000001c00000024000000000000002c000000020000002c000000050000002f00000048690053616c7574\"}],\"requests\":[]}";
+const CUT: &str =
+    "{\"bundles\":[{\"tag\":\"fr\",\"mo\":\"de12049500000000010000001c00000024000000000000002c000000020000002c000000050000002f00000048690053616c7574\"}],\"requests\":[]}";
 
 /// The catalog with its numbers most significant byte first.
-const BIG_ENDIAN: &str = "{\"bundles\":[{\"tag\":\"fr\",\"mo\":\"950412de00000000000000010000001c00000024000000000000002c000000020000002c000000050000002f48690053616c757400\"}],\"requests\":[]}";
+const BIG_ENDIAN: &str =
+    "{\"bundles\":[{\"tag\":\"fr\",\"mo\":\"950412de00000000000000010000001c00000024000000000000002c000000020000002c000000050000002f48690053616c757400\"}],\"requests\":[]}";
 
 fn words_of(alloc: Global, words: &[&str]) -> Result<Vec<String>, AllocError> {
     let mut owned = Vec::new(alloc);
@@ -102,7 +108,12 @@ fn run_into(alloc: Global, failing: u64) -> Result<(Status, String), AllocError>
 
 #[test]
 fn failing_output(rt: HostRuntime) -> Result<(), Fail> {
-    for (failing, lines) in [(1u64, ""), (2, "Salut"), (4, "Salut\nByes"), (6, "Salut\nByes\nHi")] {
+    for (failing, lines) in [
+        (1u64, ""),
+        (2, "Salut"),
+        (4, "Salut\nByes"),
+        (6, "Salut\nByes\nHi"),
+    ] {
         let (status, out) = run_into(rt.alloc(), failing)?;
         assert!(rt; status == Status::WriteFault);
         assert_eq!(rt; out.as_str(), lines);
@@ -231,6 +242,9 @@ fn thousand_messages(rt: HostRuntime) -> Result<(), Fail> {
     text.push_str("]}")?;
     let (status, out) = run_words(alloc, &["render"], text.as_str())?;
     assert!(rt; status == Status::Done);
-    assert_eq!(rt; out.as_str(), "forme 000\nforme 499\nforme 999\nmessage 1000\n");
+    assert_eq!(rt;
+        out.as_str(),
+        "forme 000\nforme 499\nforme 999\nmessage 1000\n"
+    );
     Ok(())
 }

@@ -7,8 +7,8 @@ pub returns-in_err-write_line-clause-err : goal.returns-in_err-write_line-clause
 returns-in_err-write_line-clause-err g c =
     let within : c.loop-request.request-index < length c.args.requests.now = omega arith in
     on_err _ (front_of_output g.O.Sink.took c.args.out.now c.loop-request.out _ c.args.localiser.now c.args.requests.now
-      c.loop-request.request-index c.request-item.result g.met.O.Sink.took_both within c.request-item.is
-      c.loop-request.invariant c.in_err-write_line.ensures.err)
+    c.loop-request.request-index c.request-item.result g.met.O.Sink.took_both within c.request-item.is
+    c.loop-request.invariant c.in_err-write_line.ensures.err)
 
 pub loop-request-preserved : goal.loop-request-preserved
 loop-request-preserved g c =
