@@ -12,6 +12,9 @@ pub record Sharing : Type 0 where
   pub text : List ℕ
   pub reference : List ℕ
 
+abbrev pub sharing : List ℕ → List ℕ → Sharing
+sharing text reference = record { text = text; reference = reference }
+
 -- the text: what was copied, or else the front of the other bytes
 abbrev pub text_so_far : {A : Type 0} → Option (String A) → List ℕ → List ℕ
 text_so_far None front = chars front

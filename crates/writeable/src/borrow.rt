@@ -75,9 +75,12 @@ impl<'a> Sharing<'a> {
         ensures err { OnErr result (self.new ≡ self.old) }
         ensures never_faults { IsErrOf result SinkError.Fault → ⊥ }
     {
-        if let Some(text) = &mut self.owned {
-            text.push_str(piece).map_err(|_| SinkError::NoMemory)?;
-            return Ok(());
+        match &mut self.owned {
+            Some(text) => {
+                text.push_str(piece).map_err(|_| SinkError::NoMemory)?;
+                return Ok(());
+            }
+            None => {}
         }
         if self.reference[self.shared..].starts_with(piece.as_bytes()) {
             self.shared += piece.len();
