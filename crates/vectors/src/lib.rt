@@ -4,4 +4,18 @@
 #[cfg(test)]
 mod catalogs;
 #[cfg(test)]
+mod comparing;
+#[cfg(test)]
+mod greeting;
+#[cfg(test)]
+mod hints;
+#[cfg(test)]
+mod numbers;
+#[cfg(test)]
+mod outside;
+#[cfg(test)]
+mod parts;
+#[cfg(test)]
 mod program;
+#[cfg(test)]
+mod texts;

@@ -1,8 +1,8 @@
 -- What a `PartsSink` holds once it has taken a marked text are the spans of that text.
-use Rattle.std.proofs.Common.{◌≡◌, ℕ, List, [], ◌∷◌, ◌++◌, Some, refl, sym, ap, ◌∙◌, subst, append_assoc, append-nil}
+use Rattle.std.proofs.Common.{◌≡◌, ℕ, ◌+◌, length, arith, List, [], ◌∷◌, ◌++◌, Some, refl, sym, ap, ◌∙◌, subst, append_assoc, append-nil}
 use Rattle.writeable.specs.Hint.{byte_length}
-use Rattle.writeable.specs.Marks.{Mark, Character, Open, Close, PartName, characters, inside, Nests, characters-append, Nests-append, Nests-inside}
-use Rattle.writeable.specs.PartsSink.{Parts, Begun, parts, no_parts, with_text, with_part, without_part, parts_after, TookMarks, passed_on}
+use Rattle.writeable.specs.Marks.{Mark, Character, Open, Close, PartName, characters, inside, Nests, characters-append, Nests-append, Nests-balanced, Nests-inside, openings, closings}
+use Rattle.writeable.specs.PartsSink.{Parts, Begun, parts, no_parts, with_text, with_part, without_part, parts_after, TookMarks, TookMarks-open, TookMarks-text, passed_on}
 use Rattle.writeable.specs.Spans.{Span, Spans, span_unless_empty}
 
 -- the parts that are open after these marks, from the one that was opened last on
@@ -77,3 +77,25 @@ reached-all (Close ∷ marks) done sink now r e =
 pub spans_of_taken : (marks : List Mark) (now : Parts) → TookMarks no_parts marks now → Spans marks now.spans
 spans_of_taken marks now took =
     (reached-all marks [] no_parts now record { text = refl; begun = none []; spans = Spans.nothing } took).spans
+
+-- a sink that had taken nothing, and has taken a text whose marks nest
+pub record Holds (marks : List Mark) (sink : Parts) : Type 0 where
+  pub text : sink.text ≡ characters marks
+  pub spans : Spans marks sink.spans
+  pub closed : sink.begun ≡ []
+
+no_begun : (begun : List Begun) → length begun ≡ 0 → begun ≡ []
+no_begun [] e = refl
+no_begun (x ∷ begun) e = absurd (omega arith)
+
+pub holds_taken : (marks : List Mark) (before now : Parts) → Nests marks → before ≡ no_parts → TookMarks before marks now → Holds marks now
+holds_taken marks before now nests empty took =
+    let from_none : TookMarks no_parts marks now = subst (λ s. TookMarks s marks now) empty took in
+    record {
+      text = TookMarks-text no_parts now marks from_none;
+      spans = spans_of_taken marks now from_none;
+      closed =
+          let balanced = Nests-balanced marks nests in
+          let opened = TookMarks-open no_parts now marks from_none in
+          no_begun now.begun (omega arith);
+    }

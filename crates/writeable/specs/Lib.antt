@@ -8,6 +8,7 @@ pub mod PartsFields
 pub mod PartsSink
 pub mod ScriptSink
 pub mod ScriptSource
+pub mod Sharing
 pub mod Sink
 pub mod SliceSource
 pub mod Spans

@@ -4,6 +4,7 @@
 #![tactic(auto)]
 
 pub mod adapters;
+mod borrow;
 mod compare;
 mod concat_macro;
 mod count_sink;
@@ -19,10 +20,12 @@ mod slice_source;
 mod source;
 mod standard;
 mod string_sink;
+mod testing;
 mod text;
 mod try_value;
 mod value;
 
+pub use borrow::to_string_or_borrow;
 pub use compare::{cmp_str, cmp_utf8};
 pub use count_sink::CountSink;
 pub use fixed_sink::FixedSink;
@@ -37,6 +40,7 @@ pub use slice_source::SliceSource;
 pub use source::{Source, SourceFault};
 pub use standard::{StdSink, StdSource};
 pub use string_sink::StringSink;
+pub use testing::{try_writeable_to_parts_for_test, writeable_to_parts_for_test};
 pub use text::{OwnedText, TextList, TextRow};
 pub use try_value::TryWriteable;
 pub use value::Writeable;

@@ -6,6 +6,7 @@ ghost use Rattle.writeable.specs.TryConcat.{followed, first_error, try_sum, foll
 use crate::{LengthHint, PartsWrite, Sink, SinkError, TryWriteable, Writeable};
 
 /// One text, and then another.
+#[derive(Drop)]
 pub struct Concat<A, B>(pub A, pub B);
 
 impl<A: Writeable, B: Writeable> Writeable for Concat<A, B> {

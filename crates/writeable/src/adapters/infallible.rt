@@ -4,6 +4,7 @@ use crate::{LengthHint, PartsWrite, Sink, SinkError, TryWriteable, Writeable};
 use std::convert::Infallible;
 
 /// A [`TryWriteable`] that has no error, as a [`Writeable`].
+#[derive(Drop)]
 pub struct TryWriteableInfallibleAsWriteable<T>(pub T);
 
 impl<T: TryWriteable<Error = Infallible>> Writeable for TryWriteableInfallibleAsWriteable<T> {
@@ -48,6 +49,7 @@ impl<T: TryWriteable<Error = Infallible>> Writeable for TryWriteableInfallibleAs
 }
 
 /// A [`Writeable`] as a [`TryWriteable`] that has no error.
+#[derive(Drop)]
 pub struct WriteableAsTryWriteableInfallible<T>(pub T);
 
 impl<T: Writeable> TryWriteable for WriteableAsTryWriteableInfallible<T> {

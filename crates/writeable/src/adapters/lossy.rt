@@ -1,6 +1,7 @@
 use crate::{LengthHint, PartsWrite, Sink, SinkError, TryWriteable, Writeable};
 
 /// A value that may be wrong, written all the same: its error is dropped.
+#[derive(Drop)]
 pub struct LossyWrap<T>(pub T);
 
 impl<T: TryWriteable> Writeable for LossyWrap<T> {

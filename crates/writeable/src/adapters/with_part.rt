@@ -4,6 +4,7 @@ ghost use Rattle.writeable.specs.Marks.{inside, part_name, Nests-inside, charact
 use crate::{LengthHint, Part, PartsWrite, Sink, SinkError, Writeable};
 
 /// A value whose whole text is one part.
+#[derive(Drop)]
 pub struct WithPart<T> {
     pub part: Part,
     pub writeable: T,

@@ -104,9 +104,7 @@ impl<A: TryWriteable, B: TryWriteable> TryWriteable for Either<A, B> {
         }
     }
 
-    fn try_writeable_borrow(
-        &self,
-    ) -> Option<Result<&str, (Either<A::Error, B::Error>, &str)>> {
+    fn try_writeable_borrow(&self) -> Option<Result<&str, (Either<A::Error, B::Error>, &str)>> {
         match self {
             Left(value) => match value.try_writeable_borrow()? {
                 Ok(text) => Some(Ok(text)),
