@@ -1,0 +1,4 @@
+pub mod Equality
+pub mod Pieces
+pub mod ReadingLemmas
+pub mod ShapeLemmas

@@ -1,0 +1,3 @@
+pub mod Locale
+pub mod Reading
+pub mod Shapes

@@ -1,0 +1,30 @@
+-- What stands at the front of a text whose subtags are divided by `-`.
+use Rattle.std.specs.Prelude.{ℕ, Bool, if◌then◌else◌, ◌==◌, List, [], ◌∷◌, Option, Some, None, drop}
+use Rattle.std.specs.List.{before_first, position_or_len}
+use Rattle.std.specs.Str.{byte}
+
+abbrev pub is_dash : ℕ → Bool
+is_dash c = c == byte "-"
+
+-- the text up to the first `-`, and from it on
+abbrev pub before_dash : List ℕ → List ℕ
+before_dash text = before_first is_dash text
+
+abbrev pub from_dash : List ℕ → List ℕ
+from_dash text = drop (position_or_len is_dash text) text
+
+-- the subtag behind the `-` that the text begins with, or nothing, and what follows that subtag
+abbrev pub leading : List ℕ → List ℕ
+leading [] = []
+leading (c ∷ text) = if is_dash c then before_dash text else []
+
+abbrev pub behind : List ℕ → List ℕ
+behind [] = []
+behind (c ∷ text) = if is_dash c then from_dash text else (c ∷ text)
+
+-- that subtag, if it has the shape, and what then is left
+abbrev pub taken : (List ℕ → Bool) → List ℕ → Option (List ℕ)
+taken is text = if is (leading text) then Some (leading text) else None
+
+abbrev pub left : (List ℕ → Bool) → List ℕ → List ℕ
+left is text = if is (leading text) then behind text else text

@@ -1,0 +1,14 @@
+//! Subtags in canonical case (UTS 35, Part 1, section 3.2), each compared, ordered and hashed as its text.
+
+mod characters;
+mod language;
+mod region;
+mod script;
+mod subtag;
+mod variant;
+
+pub use language::Language;
+pub use region::Region;
+pub use script::Script;
+pub use subtag::Subtag;
+pub use variant::Variant;

@@ -1,0 +1,13 @@
+pub mod TripleOrder
+pub mod Pigeonhole
+pub mod Rules
+pub mod Ends
+pub mod Revisits
+pub mod RegionEnds
+pub mod NextStep
+pub mod WalkLaws
+pub mod Lookups
+pub mod Lowercase
+pub mod Cells
+pub mod TableRows
+pub mod RowLaws

@@ -1,0 +1,92 @@
+-- What is known of a locale where each rule of the walk applies.
+use Rattle.std.proofs.Common.{◌≡◌, true, false, cond, Option, Some, None, is_some, is_none, refl, sym}
+use Rattle.std.specs.FinMap as map
+use Rattle.std.specs.Cmp.{first_so, second_so}
+use Rattle.std.specs.Cmp.Lexicographic.{same_text}
+use Rattle.icu_locale_core.specs.Locale.{Locale, unknown}
+use Rattle.icu_locale_fallback.specs.Triple.{Triple, triple_of}
+use Rattle.icu_locale_fallback.specs.Tables.{Tables}
+use Rattle.icu_locale_fallback.specs.Normal.{text_eq}
+use Rattle.icu_locale_fallback.specs.Walk.{Rule, stays, drops_subdivision, drops_variant, to_parent, drops_region, drops_language, rule, parent_or, is_unknown}
+
+same_locale : (a b : Locale) → a.language ≡ b.language → a.script ≡ b.script → a.region ≡ b.region → a.variant ≡ b.variant → a.subdivision ≡ b.subdivision → a ≡ b
+same_locale a b l s r v d i = record { language = l i; script = s i; region = r i; variant = v i; subdivision = d i }
+
+no_value : {A : Type 0} (o : Option A) → is_none o ≡ true → o ≡ None
+no_value None h = refl
+no_value (Some x) h = cc
+
+pub unknown_of : (l : Locale) → is_unknown l ≡ true → l ≡ unknown
+unknown_of l h =
+    let language = first_so (text_eq l.language unknown.language) _ h in
+    let h1 = second_so (text_eq l.language unknown.language) _ h in
+    let script = first_so (is_none l.script) _ h1 in
+    let h2 = second_so (is_none l.script) _ h1 in
+    let region = first_so (is_none l.region) _ h2 in
+    let h3 = second_so (is_none l.region) _ h2 in
+    let variant = first_so (is_none l.variant) _ h3 in
+    let subdivision = second_so (is_none l.variant) _ h3 in
+    same_locale l unknown
+    (same_text l.language unknown.language (sym language))
+    (no_value l.script script)
+    (no_value l.region region)
+    (no_value l.variant variant)
+    (no_value l.subdivision subdivision)
+
+-- what is known where the rule r applies to l
+pub data Applies (F : Tables) (l : Locale) : Rule → Type 0 where
+  at_unknown : l ≡ unknown → Applies F l stays
+  with_subdivision : is_some l.subdivision ≡ true → Applies F l drops_subdivision
+  with_variant : l.subdivision ≡ None → is_some l.variant ≡ true → Applies F l drops_variant
+  with_parent : {parent : Triple} → l.subdivision ≡ None → l.variant ≡ None → map.get F.parents (triple_of l) ≡ Some parent → Applies F l (to_parent parent)
+  with_region : l.subdivision ≡ None → l.variant ≡ None → is_some l.region ≡ true → Applies F l drops_region
+  with_language : l.subdivision ≡ None → l.variant ≡ None → Applies F l drops_language
+
+absent : {A : Type 0} (o : Option A) → is_some o ≡ false → o ≡ None
+absent None h = refl
+absent (Some x) h = cc
+
+-- the rule that the walk takes applies
+pub applies : (F : Tables) (l : Locale) → Applies F l (rule F l)
+applies F l =
+    elim (is_unknown l) as (λ b. is_unknown l ≡ b → Applies F l (cond b stays (after_unknown))) [
+      | true ↦ λ e. at_unknown (unknown_of l e)
+      | false ↦ λ e. behind_unknown
+    ] refl
+  where
+    after_variant : Rule
+    after_variant = parent_or (map.get F.parents (triple_of l)) (cond (is_some l.region) drops_region drops_language)
+
+    after_subdivision : Rule
+    after_subdivision = cond (is_some l.variant) drops_variant after_variant
+
+    after_unknown : Rule
+    after_unknown = cond (is_some l.subdivision) drops_subdivision after_subdivision
+
+    behind_parent : l.subdivision ≡ None → l.variant ≡ None → Applies F l (cond (is_some l.region) drops_region drops_language)
+    behind_parent s v =
+        elim (is_some l.region) as (λ b. is_some l.region ≡ b → Applies F l (cond b drops_region drops_language)) [
+          | true ↦ λ e. with_region s v e
+          | false ↦ λ e. with_language s v
+        ] refl
+
+    behind_variant : l.subdivision ≡ None → l.variant ≡ None → Applies F l after_variant
+    behind_variant s v =
+        elim (map.get F.parents (triple_of l)) as (λ o. map.get F.parents (triple_of l) ≡ o → Applies F l (parent_or o (cond (is_some l.region) drops_region drops_language))) [
+          | Some t ↦ λ e. with_parent s v e
+          | None ↦ λ e. behind_parent s v
+        ] refl
+
+    behind_subdivision : l.subdivision ≡ None → Applies F l after_subdivision
+    behind_subdivision s =
+        elim (is_some l.variant) as (λ b. is_some l.variant ≡ b → Applies F l (cond b drops_variant after_variant)) [
+          | true ↦ λ e. with_variant s e
+          | false ↦ λ e. behind_variant s (absent l.variant e)
+        ] refl
+
+    behind_unknown : Applies F l after_unknown
+    behind_unknown =
+        elim (is_some l.subdivision) as (λ b. is_some l.subdivision ≡ b → Applies F l (cond b drops_subdivision after_subdivision)) [
+          | true ↦ λ e. with_subdivision e
+          | false ↦ λ e. behind_subdivision (absent l.subdivision e)
+        ] refl

@@ -1,0 +1,9 @@
+pub mod Cells
+pub mod Faults
+pub mod Normal
+pub mod Rows
+pub mod Steps
+pub mod Tables
+pub mod Triple
+pub mod Views
+pub mod Walk
