@@ -4,3 +4,8 @@ pub mod Keys
 pub mod Collecting
 pub mod Lookups
 pub mod Meaning
+pub mod Words
+pub mod Chains
+pub mod Grammar
+pub mod GrammarComplete
+pub mod Expressions

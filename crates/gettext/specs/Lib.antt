@@ -3,3 +3,7 @@ pub mod Mo
 pub mod Table
 pub mod Reading
 pub mod Fault
+pub mod Expression
+pub mod Tokens
+pub mod Grammar
+pub mod Parsing

@@ -1,10 +1,10 @@
 -- Texts that are one, and catalogs that find alike.
-use Rattle.std.proofs.Common.{◌≡◌, ℕ, ◌≤◌, suc, List, [], ◌∷◌, length, Bool, true, false, true≢false, refl, sym, ap, ◌∙◌, cond, arith, Option, Some, None}
+use Rattle.std.proofs.Common.{◌≡◌, ℕ, ◌≤◌, List, [], ◌∷◌, length, Bool, true, false, refl, sym, ap, ◌∙◌, arith, Some}
 use Rattle.std.proofs.lemmas.Slice.Eq.{bytes_eq-Decides}
 use Rattle.std.proofs.lemmas.Str.{encodes-chars}
 use Rattle.std.specs.List.{slice_get}
 use Rattle.std.specs.Str.{bytes_eq, chars, IsUtf8}
-use Rattle.gettext.specs.Messages.{Messages, StandsFor, form, numbered, lookup, value_of, same_text, ◌>>=◌}
+use Rattle.gettext.specs.Messages.{Messages, StandsFor, form, numbered, value_of, same_text, ◌>>=◌}
 use lib.Utf8.{encodes}
 
 -- two tests of one fact agree

@@ -1,5 +1,5 @@
 -- Which text a request gets: the walk over locales, and the first that translates.
-use Rattle.std.specs.Prelude.{◌≡◌, ℕ, suc, List, [], ◌∷◌, map, codes, Option, Some, None, ◌==◌, if◌then◌else◌}
+use Rattle.std.specs.Prelude.{ℕ, suc, List, [], ◌∷◌, map, codes, Option, Some, None, ◌==◌, if◌then◌else◌}
 use Rattle.std.specs.Option.{option_or, option_map}
 use Rattle.gettext.specs.Messages.{form, key_of, same_text}
 use Rattle.localise.specs.Meaning.{Meaning}

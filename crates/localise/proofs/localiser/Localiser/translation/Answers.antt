@@ -1,5 +1,5 @@
 -- The walk over the one bundle that there is.
-use Rattle.std.proofs.Common.{◌≡◌, ℕ, List, ◌∷◌, [], codes, refl, sym, ap, ◌∙◌, true, false, None}
+use Rattle.std.proofs.Common.{◌≡◌, ◌∷◌, [], codes, refl, sym, ap, ◌∙◌, true, false, None}
 use Rattle.std.specs.Option.{option_to_list}
 use Rattle.std.specs.Str.{chars}
 use Rattle.gettext.specs.Messages.{same_text}
