@@ -1,5 +1,5 @@
 -- The members of an object beside the map that holds them.
-use Rattle.std.proofs.Common.{◌≡◌, ℕ, List, [], ◌∷◌, length, Option, Some, None, option_map, String, Global, Ordering, Less, Equal, Greater, is_eq, string_bytes, nat_cmp, nat_eq, Bool, true, false, true≢false, IsTrue, ◌↔◌, arith, option_and_then, ◌++◌, codes, cond, refl, sym, ap, ◌∙◌, bytes_eq}
+use Rattle.std.proofs.Common.{◌≡◌, ℕ, List, [], ◌∷◌, length, Option, Some, None, option_map, String, Global, Ordering, Less, Equal, Greater, is_eq, string_bytes, nat_cmp, Bool, true, false, true≢false, IsTrue, ◌↔◌, arith, option_and_then, ◌++◌, codes, cond, refl, sym, ap, ◌∙◌, bytes_eq}
 use Rattle.std.proofs.lemmas.Slice.Eq.{bytes_eq-Decides}
 use Rattle.std.specs.Ordering.{match_ordering}
 use Rattle.std.proofs.lemmas.Map.Text.{is_eq-slice_cmp}

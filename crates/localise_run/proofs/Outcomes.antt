@@ -1,14 +1,12 @@
 -- From how the steps of a run end to what holds under each answer.
-use Rattle.std.proofs.Common.{◌≡◌, ◌≢◌, ℕ, ◌≤◌, ◌<◌, ◌⊎◌, inl, inr, List, ◌++◌, length, Bool, true, false, refl, sym, ap, ◌∙◌, subst, cond, Option, Some, None, IfSome, nat_le}
+use Rattle.std.proofs.Common.{◌≡◌, ℕ, ◌≤◌, ◌<◌, ◌⊎◌, inl, inr, List, ◌++◌, length, Bool, true, refl, sym, ap, ◌∙◌, subst, cond, Option, Some, None, IfSome}
 use Rattle.std.proofs.lemmas.Bool.{le-leb, lt-leb}
 use Rattle.writeable.specs.Sink.{TookPrefix, Rose}
-use Rattle.localise.specs.declared.error.RenderError.{RenderError}
 use Rattle.localise.specs.Bundles.{refusal}
-use Rattle.serde_json.specs.Data.{Data}
 use Rattle.localise_run.specs.declared.status.Status.{Status}
 use Rattle.localise_run.specs.declared.status.Status.TheVariants.{Done, BadWords, NotJson, Bundle, ReadFault, WriteFault, NoMemory, TooLong, NotBuilt}
 use Rattle.localise_run.specs.Contents.{Contents}
-use Rattle.localise_run.specs.Document.{json_of, document_of}
+use Rattle.localise_run.specs.Document.{json_of}
 use Rattle.localise_run.specs.Reading.{IsReadError}
 use Rattle.localise_run.specs.Run.{most_bytes, answer_of, answer_to_value, answer_to_contents, refused_or_done, IsDocument, Renders, Appended, Outcome, FailsToRender, IsFailure, IsRefusal, ComesAtEnd}
 

@@ -1,5 +1,5 @@
 -- The requests of a document that is understood are plain.
-use Rattle.std.proofs.Common.{◌≡◌, ℕ, ◌≤◌, List, [], ◌∷◌, length, Bool, true, false, refl, sym, ap, ◌∙◌, subst, codes, cond, Option, Some, None, IfSome, option_and_then, option_map, nat_le}
+use Rattle.std.proofs.Common.{◌≡◌, ℕ, ◌≤◌, List, [], ◌∷◌, length, Bool, true, false, refl, sym, ap, ◌∙◌, subst, codes, cond, Option, Some, None, option_and_then, option_map}
 use Rattle.std.proofs.lemmas.Bool.{leb-true}
 use Rattle.localise.specs.declared.bundle.BundleText.{BundleText}
 use Rattle.std.specs.List.{AllByRecursion}
@@ -8,7 +8,7 @@ use Rattle.localise.specs.Plain.{is_plain_tag, IsPlain}
 use Rattle.serde_json.specs.Data.{Data, Items, no_items, item, Members}
 use Rattle.serde_json.specs.Find.{as_object, as_array, get_member}
 use Rattle.localise_run.specs.Contents.{Contents}
-use Rattle.localise_run.specs.Document.{checked, tag_of, text_of, count_of, member_of, each_of, list_of, only, has_only, request_from, request_in, request_of, plain_request, document_in, document_of, document_from, bundle_of, is_few}
+use Rattle.localise_run.specs.Document.{checked, tag_of, text_of, count_of, member_of, each_of, list_of, has_only, request_from, request_in, request_of, plain_request, document_in, document_of, document_from, bundle_of, is_few}
 
 none_is_some : {A : Type 0} {P : Type 0} (a : A) → None ≡ Some a → P
 none_is_some a e = absurd (let apart : ⊥ = cc in apart)

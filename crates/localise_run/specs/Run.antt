@@ -1,12 +1,10 @@
 -- What a run means: the one answer of a document, and the lines that are appended.
-use Rattle.std.specs.Prelude.{◌≡◌, ◌≢◌, ℕ, ◌+◌, ◌≤◌, ◌<◌, ◌⊎◌, List, [], ◌∷◌, ◌++◌, length, map, codes, Option, Some, None, IfSome, Bool, true, String, string_bytes, nat_le, if◌then◌else◌}
+use Rattle.std.specs.Prelude.{◌≡◌, ℕ, ◌≤◌, ◌⊎◌, List, [], ◌∷◌, ◌++◌, length, map, codes, Option, Some, None, IfSome, Bool, true, String, string_bytes, nat_le, if◌then◌else◌}
 use Rattle.std.specs.declared.alloc.Global.{Global}
 use Rattle.writeable.specs.Sink.{TookPrefix, Rose}
-use Rattle.gettext.specs.declared.error.Error.{Error}
 use Rattle.gettext.specs.declared.error.Error.TheVariants as mo
 use Rattle.localise.specs.declared.bundle.BundleText.{BundleText}
 use Rattle.localise.specs.declared.request.Request.{Request}
-use Rattle.localise.specs.declared.error.BundleCause.{BundleCause}
 use Rattle.localise.specs.declared.error.BundleCause.TheVariants.{Mo}
 use Rattle.localise.specs.declared.error.RenderError.{RenderError}
 use Rattle.localise.specs.declared.error.RenderError.TheVariants as refusals

@@ -1,5 +1,5 @@
 -- A text has as many characters as it gives.
-use Rattle.std.proofs.Common.{◌≡◌, ℕ, length, rules, sym, ◌==◌, ◌||◌, nat_eq, arith}
+use Rattle.std.proofs.Common.{◌≡◌, length, rules, sym, arith}
 use Rattle.std.proofs.lemmas.Str.{chars_from_encodes}
 use Rattle.std.specs.Str.{chars}
 use Rattle.localise_run.proofs.document.has_a_tags_length.Goals as goal
