@@ -1,0 +1,107 @@
+-- Conditions in order, and what the readers of a file say of them.
+use Rattle.std.proofs.Common.{◌≡◌, ℕ, suc, ◌+◌, ◌≤◌, ◌<◌, Bool, true, false, cond, not, ◌||◌, ltb, List, [], ◌∷◌, ◌++◌, length, get_or, take, drop, Option, Some, None, Result, Ok, Err, refl, sym, ◌∙◌, arith, lit<, inl, inr}
+use Rattle.std.specs.Int.{w32, from_le_bytes}
+use Rattle.std.specs.Option.{unwrap_or}
+use Rattle.std.specs.List.{list_any, position_or_len}
+use Rattle.std.specs.Result.{MatchResult, is_ok}
+use Rattle.std.specs.Str.{IsUtf8, is_utf8}
+use Rattle.std.proofs.lemmas.Bool.{false_from_ne_true, cases_lt, lt-ltb, le-ltb}
+use Rattle.std.proofs.lemmas.Str.{IsUtf8-from_is_utf8, is_utf8-from_IsUtf8}
+use Rattle.std.proofs.lemmas.List.Folds.{length-prefix_len}
+use Rattle.std.proofs.lemmas.List.{get_or-take, get_or-drop, length-take}
+use Rattle.gettext.specs.declared.error.Error.{Error}
+use Rattle.gettext.specs.declared.error.Error.TheVariants.{DecodingError, Eof, NotBuilt}
+use Rattle.gettext.specs.Mo.{Condition, first_failure, number, is_nul, is_plain, head_of, head_conditions}
+
+still_fails : (b : Bool) (x y : Option Error) (d e : Error) → (x ≡ Some e → y ≡ Some e) → cond b x (Some d) ≡ Some e → cond b y (Some d) ≡ Some e
+still_fails true x y d e f h = f h
+still_fails false x y d e f h = h
+
+still_passes : (b : Bool) (x y z : Option Error) (d : Error) → (x ≡ None → y ≡ z) → cond b x (Some d) ≡ None → cond b y (Some d) ≡ z
+still_passes true x y z d f h = f h
+still_passes false x y z d f h = absurd cc
+
+-- conditions behind others
+pub failed_first : (xs ys : List Condition) (e : Error) → first_failure xs ≡ Some e → first_failure (xs ++ ys) ≡ Some e
+failed_first [] ys e h = absurd cc
+failed_first (c ∷ cs) ys e h = still_fails c.0 (first_failure cs) (first_failure (cs ++ ys)) c.1 e (failed_first cs ys e) h
+
+pub passed_first : (xs ys : List Condition) → first_failure xs ≡ None → first_failure (xs ++ ys) ≡ first_failure ys
+passed_first [] ys h = refl
+passed_first (c ∷ cs) ys h = still_passes c.0 (first_failure cs) (first_failure (cs ++ ys)) (first_failure ys) c.1 (passed_first cs ys) h
+
+first_passes : (b : Bool) (x : Option Error) (d : Error) → cond b x (Some d) ≡ None → (b ≡ true) × (x ≡ None)
+first_passes true x d h = (refl, h)
+first_passes false x d h = absurd cc
+
+-- the first of some conditions, and the others
+pub head_passes : (c : Condition) (cs : List Condition) → first_failure (c ∷ cs) ≡ None → (c.0 ≡ true) × (first_failure cs ≡ None)
+head_passes c cs h = first_passes c.0 (first_failure cs) c.1 h
+
+pub parts_pass : (xs ys : List Condition) → first_failure (xs ++ ys) ≡ None → (first_failure xs ≡ None) × (first_failure ys ≡ None)
+parts_pass [] ys h = (refl, h)
+parts_pass (c ∷ cs) ys h =
+    let first = head_passes c (cs ++ ys) h in
+    let rest = parts_pass cs ys first.1 in
+    (rw first.0 rest.0, rest.1)
+
+pub ruleset by_parts = (failed_first, passed_first)
+
+-- a number, read byte by byte
+pub number_read : (b : List ℕ) (at : ℕ) → number b at ≡ from_le_bytes w32 (get_or b at 0 ∷ get_or b (at + 1) 0 ∷ get_or b (at + 2) 0 ∷ get_or b (at + 3) 0 ∷ [])
+unfolding number
+number_read b at =
+    let place : (i : ℕ) → i < 4 → get_or (take 4 (drop at b)) i 0 ≡ get_or b (at + i) 0 = λ i h. get_or-take 4 (drop at b) i 0 h ∙ get_or-drop at b i 0 in
+    grind (arith, place 0 (lit< tt), place 1 (lit< tt), place 2 (lit< tt), place 3 (lit< tt))
+
+-- what `from_utf8` answers
+pub is_ok-from_utf8 : {X Y : Type 0} (bytes : List ℕ) (r : Result X Y) (A : X → Type 0) (B : Y → Type 0) → MatchResult r (λ x. A x × IsUtf8 bytes) (λ e. ¬ (IsUtf8 bytes) × B e) → is_ok r ≡ is_utf8 bytes
+is_ok-from_utf8 bytes (Ok x) A B h = sym (is_utf8-from_IsUtf8 bytes h.1)
+is_ok-from_utf8 bytes (Err e) A B h = sym (false_from_ne_true (is_utf8 bytes) (λ e. h.0 (IsUtf8-from_is_utf8 bytes e)))
+
+-- ---- an original
+
+ltb_suc : (k n : ℕ) → ltb k n ≡ ltb (1 + k) (suc n)
+ltb_suc k n = elim (cases_lt k n) [ inl lt ↦ rw (lt-ltb k n lt, lt-ltb (1 + k) (suc n) (omega arith)) refl | inr le ↦ rw (le-ltb k n le, le-ltb (1 + k) (suc n) (omega arith)) refl ]
+
+list_any_is : {X : Type 0} (p : X → Bool) (xs : List X) → list_any p xs ≡ ltb (position_or_len p xs) (length xs)
+list_any_is p [] = refl
+list_any_is p (x ∷ xs) = at_head (p x) (list_any p xs) (position_or_len p xs) (length xs) (list_any_is p xs) where
+  at_head : (b r : Bool) (k n : ℕ) → r ≡ ltb k n → (b || r) ≡ ltb (cond (not b) (1 + k) 0) (suc n)
+  at_head true r k n e = sym (lt-ltb 0 (suc n) (omega arith))
+  at_head false r k n e = e ∙ ltb_suc k n
+
+-- how the conditions of an original go
+pub head_failure : (o : List ℕ) → first_failure (head_conditions o)
+    ≡ cond (ltb (position_or_len is_nul o) (length o)) (cond (is_plain (take (position_or_len is_nul o) o)) (cond (is_utf8 (take (position_or_len is_nul o) o)) None (Some DecodingError)) (Some NotBuilt)) (Some Eof)
+unfolding head_conditions head_of
+head_failure o = rw (list_any_is is_nul o) refl
+
+place-le-length : (o : List ℕ) → position_or_len is_nul o ≤ length o
+place-le-length o = omega (arith, length-prefix_len (λ x. not (is_nul x)) o, length-take (position_or_len is_nul o) o)
+
+module _ (o : List ℕ) (len : ℕ) (place : len ≡ position_or_len is_nul o) where
+  pub has_no_nul : len ≡ length o → first_failure (head_conditions o) ≡ Some Eof
+  has_no_nul e = rw (head_failure o, le-ltb (position_or_len is_nul o) (length o) (omega arith)) refl
+
+  module _ (inside : len ≡ length o → ⊥) where
+    pub is_inside : len < length o
+    is_inside = let short = place-le-length o in omega arith
+
+    pub is_not_plain : is_plain (take len o) ≡ false → first_failure (head_conditions o) ≡ Some NotBuilt
+    is_not_plain h = rw (head_failure o, lt-ltb (position_or_len is_nul o) (length o) (rw (← place) is_inside), ← place, h) refl
+
+    pub is_not_text : is_plain (take len o) ≡ true → is_utf8 (take len o) ≡ false → first_failure (head_conditions o) ≡ Some DecodingError
+    is_not_text p h = rw (head_failure o, lt-ltb (position_or_len is_nul o) (length o) (rw (← place) is_inside), ← place, p, h) refl
+
+    pub is_key : is_plain (take len o) ≡ true → is_utf8 (take len o) ≡ true → (len ≡ length (head_of o)) × (first_failure (head_conditions o) ≡ None)
+    unfolding head_of
+    is_key p h =
+        (place ∙ sym (length-prefix_len (λ x. not (is_nul x)) o), rw (head_failure o, lt-ltb (position_or_len is_nul o) (length o) (rw (← place) is_inside), ← place, p, h) refl)
+
+-- the place of the first NUL, as `position` and `unwrap_or` give it
+pub first_place : (xs : List ℕ) (r : Option ℕ) (n : ℕ) → r ≡ cond (ltb (position_or_len is_nul xs) (length xs)) (Some (position_or_len is_nul xs)) None → n ≡ length xs → unwrap_or r n ≡ position_or_len is_nul xs
+first_place xs r n e f =
+    by_cases (position_or_len is_nul xs) (length xs) r n e f (place-le-length xs) where
+      by_cases : (k m : ℕ) (r : Option ℕ) (n : ℕ) → r ≡ cond (ltb k m) (Some k) None → n ≡ m → k ≤ m → unwrap_or r n ≡ k
+      by_cases k m r n e f short = elim (cases_lt k m) [ inl lt ↦ rw (e, lt-ltb k m lt) refl | inr le ↦ rw (e, le-ltb k m le) (omega arith) ]

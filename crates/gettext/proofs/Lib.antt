@@ -1,0 +1,6 @@
+pub mod Conditions
+pub mod Rows
+pub mod Keys
+pub mod Collecting
+pub mod Lookups
+pub mod Meaning

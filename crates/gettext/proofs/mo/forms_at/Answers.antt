@@ -1,0 +1,10 @@
+use Rattle.std.proofs.lemmas.Result.{err_from_is_err_and}
+use Rattle.gettext.specs.Mo.{text_conditions, forms_conditions, translation_conditions, text_of}
+use Rattle.gettext.proofs.Conditions.{failed_first}
+use Rattle.gettext.proofs.mo.forms_at.Goals as goal
+
+pub returns-in_err-text : goal.returns-in_err-text
+unfolding translation_conditions
+returns-in_err-text c =
+    let p = err_from_is_err_and c.from_residual.result c.from_residual.ensures.1 in
+    rw (p.1, p.2) (rw (← c.requires.translations) (failed_first (text_conditions c.args.bytes.now c.args.header.translations c.args.index) (forms_conditions (text_of c.args.bytes.now c.args.header.translations c.args.index)) _ c.in_err-text.ensures))

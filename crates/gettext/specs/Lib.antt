@@ -1,0 +1,5 @@
+pub mod Messages
+pub mod Mo
+pub mod Table
+pub mod Reading
+pub mod Fault

@@ -1,0 +1,52 @@
+-- How a catalog keeps its messages: one buffer, and a table of ranges in it, whose keys ascend.
+use Rattle.std.specs.Prelude.{◌≡◌, ℕ, ◌-◌, ◌≤◌, true, List, [], ◌∷◌, Option, Some, None, if◌then◌else◌, length, take, drop, map}
+use Rattle.std.specs.Option.{option_or}
+use Rattle.std.specs.List.{list_all, AllByRecursion}
+use Rattle.std.specs.List.Sorted.{IsStrictlySortedBy}
+use Rattle.std.specs.Ordering.{nat_cmp}
+use Rattle.std.specs.Cmp.Lexicographic.{slice_cmp}
+use Rattle.std.specs.Str.{is_utf8, chars}
+use Rattle.gettext.specs.declared.table.Span.{Span}
+use Rattle.gettext.specs.declared.table.Row.{Row}
+use Rattle.gettext.specs.Messages.{Message, Messages, Default, same_text}
+use Rattle.gettext.specs.Mo.{pieces_of}
+
+-- what clauses see of the entries of a catalog
+pub record Held : Type 0 where
+  pub messages : Messages
+  pub buffer : List ℕ
+
+abbrev pub bytes_at : List ℕ → Span → List ℕ
+bytes_at buffer span = take (span.end - span.start) (drop span.start buffer)
+
+unfoldable pub key_bytes : List ℕ → Row → List ℕ
+key_bytes buffer row = bytes_at buffer row.key
+
+unfoldable pub form_bytes : List ℕ → Row → List (List ℕ)
+form_bytes buffer row = pieces_of (bytes_at buffer row.forms)
+
+unfoldable pub message_at : List ℕ → Row → Message
+message_at buffer row = record { key = chars (key_bytes buffer row); forms = map chars (form_bytes buffer row) }
+
+unfoldable pub held : List ℕ → List Row → Held
+held buffer rows = record { messages = record { rule = Default; pairs = map (message_at buffer) rows }; buffer = buffer }
+
+-- the last row with the bytes of a key
+abbrev pub row_for : List ℕ → List Row → List ℕ → Option Row
+row_for buffer [] key = None
+row_for buffer (r ∷ rs) key = option_or (row_for buffer rs key) (if same_text (key_bytes buffer r) key then Some r else None)
+
+pub record LiesIn (buffer : List ℕ) (span : Span) : Type 0 where
+  pub ordered : span.start ≤ span.end
+  pub inside : span.end ≤ length buffer
+
+-- the ranges of a row lie in the buffer, and its texts are UTF-8
+pub record IsRowOf (buffer : List ℕ) (row : Row) : Type 0 where
+  pub key_inside : LiesIn buffer row.key
+  pub key : is_utf8 (key_bytes buffer row) ≡ true
+  pub forms_inside : LiesIn buffer row.forms
+  pub forms : list_all is_utf8 (form_bytes buffer row) ≡ true
+
+pub record IsTable (buffer : List ℕ) (rows : List Row) : Type 0 where
+  pub rows_fit : AllByRecursion (IsRowOf buffer) rows
+  pub keys_ascend : IsStrictlySortedBy (slice_cmp nat_cmp) (map (key_bytes buffer) rows)

@@ -1,0 +1,149 @@
+//! How a catalog keeps its messages: one buffer of bytes, and a table of ranges in it in the order of
+//! the keys' bytes.
+
+ghost use Rattle.std.specs.Prelude.{◌≡◌, ℕ, ◌∷◌, [], length, IfSome};
+ghost use Rattle.std.specs.Option.{option_map};
+ghost use Rattle.std.specs.List.{slice_get};
+ghost use Rattle.std.specs.Ordering.{nat_cmp};
+ghost use Rattle.std.specs.Cmp.Lexicographic.{slice_cmp};
+ghost use Rattle.std.specs.Str.{chars, IsUtf8};
+ghost use Rattle.gettext.specs.Messages.{key_of, numbered};
+ghost use Rattle.gettext.specs.Mo.{pieces_of};
+
+use std::alloc::Global;
+use std::cmp::Ordering;
+use std::marker::Model;
+use std::str;
+
+/// A range of bytes in a buffer.
+#[derive(Clone, Copy)]
+pub struct Span {
+    pub start: usize,
+    pub end: usize,
+}
+
+/// Where a message's key stands, and where its forms stand, with a NUL between each two of them.
+#[derive(Clone, Copy)]
+pub struct Row {
+    pub key: Span,
+    pub forms: Span,
+}
+
+/// Messages over one buffer. Their keys differ and ascend.
+#[derive(Drop)]
+pub struct Table {
+    buffer: Vec<u8>,
+    rows: Vec<Row>,
+}
+
+impl Model for Table {
+    ghost use Rattle.gettext.specs.Table.{Held, held, IsTable};
+
+    ghost Value = { Held };
+
+    ghost view = { λ a. held a.buffer.items a.rows.items };
+
+    ghost invariant = { λ a. IsTable a.buffer.items a.rows.items };
+}
+
+impl Table {
+    ghost use Rattle.gettext.specs.Table.{held, IsTable};
+
+    pub fn empty(alloc: Global) -> Table
+        ensures { result ≡ held [] [] }
+    {
+        Table {
+            buffer: Vec::new(alloc),
+            rows: Vec::new(alloc),
+        }
+    }
+
+    pub fn new(buffer: Vec<u8>, rows: Vec<Row>) -> Table
+        requires { IsTable buffer.items rows.items }
+        ensures { result ≡ held buffer.items rows.items }
+    {
+        Table { buffer, rows }
+    }
+
+    /// The form with that number of the message with that context and id.
+    pub fn form(&self, context: Option<&str>, id: &str, number: usize) -> Option<&str>
+        ensures { option_map (λ text. (number, chars text.now)) result
+            ≡ numbered self.now.messages (key_of (option_map (λ s. chars s.now) context.entry) (chars id.now)) number }
+    {
+        let row = find_row(&self.buffer, &self.rows, bytes_in(context), id.as_bytes())?;
+        nth_form(&self.buffer, row, number)
+    }
+}
+
+ghost use Rattle.gettext.specs.Table.{IsTable, IsRowOf, LiesIn, bytes_at, row_for, form_bytes};
+
+fn bytes_in(text: Option<&str>) -> Option<&[u8]>
+    ensures value { option_map (λ bytes. bytes.now) result ≡ option_map (λ s. s.now) text.entry }
+    ensures utf8 { IfSome text.entry (λ s. IsUtf8 s.now) }
+{
+    text.map(|text| text.as_bytes())
+}
+
+pub fn bytes_of(buffer: &[u8], span: Span) -> &[u8]
+    requires { LiesIn buffer.now span }
+    ensures { result.now ≡ bytes_at buffer.now span }
+{
+    &buffer[span.start..span.end]
+}
+
+/// Compares a key with the context, U+0004 and the id as one text, or with the id alone.
+fn compare_key(key: &[u8], context: Option<&[u8]>, id: &[u8]) -> Ordering
+    ensures { result ≡ slice_cmp nat_cmp key.now (key_of (option_map (λ s. s.now) context.entry) id.now) }
+{
+    let Some(context) = context else {
+        return key.cmp(id);
+    };
+    let (front, rest) = key.split_at(context.len().min(key.len()));
+    match front.cmp(context) {
+        Ordering::Equal => compare_rest(rest, id),
+        unequal => unequal,
+    }
+}
+
+/// Compares what stands behind a context with U+0004 and the id.
+fn compare_rest(rest: &[u8], id: &[u8]) -> Ordering
+    ensures { result ≡ slice_cmp nat_cmp rest.now (4 ∷ id.now) }
+{
+    match rest {
+        [] => Ordering::Less,
+        [first, rest @ ..] => first.cmp(&4).then(rest.cmp(id)),
+    }
+}
+
+fn find_row(buffer: &[u8], rows: &[Row], context: Option<&[u8]>, id: &[u8]) -> Option<Row>
+    requires { IsTable buffer.now rows.now }
+    ensures { result ≡ row_for buffer.now rows.now (key_of (option_map (λ s. s.now) context.entry) id.now) }
+{
+    let mut low = 0;
+    let mut high = rows.len();
+    while low < high {
+        let middle = low + (high - low) / 2;
+        let row = rows[middle];
+        match compare_key(bytes_of(buffer, row.key), context, id) {
+            Ordering::Less => low = middle + 1,
+            Ordering::Equal => return Some(row),
+            Ordering::Greater => high = middle,
+        }
+    }
+    None
+}
+
+fn nth_form(buffer: &[u8], row: Row, number: usize) -> Option<&str>
+    requires { IsRowOf buffer.now row }
+    ensures { option_map (λ text. text.now) result ≡ slice_get (form_bytes buffer.now row) number }
+{
+    let form = nth_piece(bytes_of(buffer, row.forms), number)?;
+    // The type keeps that each form is UTF-8.
+    Some(unsafe { str::from_utf8_unchecked(form) })
+}
+
+fn nth_piece(text: &[u8], number: usize) -> Option<&[u8]>
+    ensures { option_map (λ piece. piece.now) result ≡ slice_get (pieces_of text.now) number }
+{
+    text.split(|byte| *byte == 0).nth(number)
+}

@@ -1,0 +1,111 @@
+use super::*;
+use std::alloc::Global;
+use std::test::Fail;
+
+/// One message, `Hi` with the form `Salut`.
+const C1: &[u8] =
+    b"\xde\x12\x04\x95\x00\x00\x00\x00\x01\x00\x00\x00\x1c\x00\x00\x00$\x00\x00\x00\x00\x00\x00\x00,\x00\x00\x00\x02\x00\x00\x00,\x00\x00\x00\x05\x00\x00\x00/\x00\x00\x00Hi\x00Salut\x00";
+
+/// The same with the most significant byte of each number first.
+const C1_BIG_ENDIAN: &[u8] =
+    b"\x95\x04\x12\xde\x00\x00\x00\x00\x00\x00\x00\x01\x00\x00\x00\x1c\x00\x00\x00$\x00\x00\x00\x00\x00\x00\x00,\x00\x00\x00\x02\x00\x00\x00,\x00\x00\x00\x05\x00\x00\x00/Hi\x00Salut\x00";
+
+/// One message, `Hello %s` with the form `Bonjour %s`.
+const C2: &[u8] =
+    b"\xde\x12\x04\x95\x00\x00\x00\x00\x01\x00\x00\x00\x1c\x00\x00\x00$\x00\x00\x00\x00\x00\x00\x00,\x00\x00\x00\x08\x00\x00\x00,\x00\x00\x00\x0a\x00\x00\x005\x00\x00\x00Hello %s\x00Bonjour %s\x00";
+
+/// `C1` with more rows than it has bytes.
+const COUNT_PAST_END: &[u8] =
+    b"\xde\x12\x04\x95\x00\x00\x00\x00\xff\xff\xff\xff\x1c\x00\x00\x00$\x00\x00\x00\x00\x00\x00\x00,\x00\x00\x00\x02\x00\x00\x00,\x00\x00\x00\x05\x00\x00\x00/\x00\x00\x00Hi\x00Salut\x00";
+
+/// `C1` with an original that lies past the end.
+const TEXT_PAST_END: &[u8] =
+    b"\xde\x12\x04\x95\x00\x00\x00\x00\x01\x00\x00\x00\x1c\x00\x00\x00$\x00\x00\x00\x00\x00\x00\x00,\x00\x00\x00\xff\xff\xff\xff\xff\xff\xff\xff\x05\x00\x00\x00/\x00\x00\x00Hi\x00Salut\x00";
+
+/// Both tables are one.
+const ONE_TABLE: &[u8] =
+    b"\xde\x12\x04\x95\x00\x00\x00\x00\x01\x00\x00\x00\x1c\x00\x00\x00\x1c\x00\x00\x00\x00\x00\x00\x00$\x00\x00\x00\x02\x00\x00\x00$\x00\x00\x00Hi\x00";
+
+/// `Hi` twice, and `Text` between with two forms.
+const TWICE: &[u8] =
+    b"\xde\x12\x04\x95\x00\x00\x00\x00\x03\x00\x00\x00\x1c\x00\x00\x004\x00\x00\x00\x00\x00\x00\x00L\x00\x00\x00\x02\x00\x00\x00L\x00\x00\x00\x0a\x00\x00\x00O\x00\x00\x00\x02\x00\x00\x00Z\x00\x00\x00\x05\x00\x00\x00]\x00\x00\x00\x0f\x00\x00\x00c\x00\x00\x00\x07\x00\x00\x00s\x00\x00\x00Hi\x00Text\x00Texts\x00Hi\x00Salut\x00Tekstas\x00Tekstai\x00Bonjour\x00";
+
+/// A form that is not UTF-8.
+const BAD_FORM: &[u8] =
+    b"\xde\x12\x04\x95\x00\x00\x00\x00\x01\x00\x00\x00\x1c\x00\x00\x00$\x00\x00\x00\x00\x00\x00\x00,\x00\x00\x00\x02\x00\x00\x00,\x00\x00\x00\x07\x00\x00\x00/\x00\x00\x00Hi\x00Salut\x00\xff\x00";
+
+/// An id that is not UTF-8.
+const BAD_KEY: &[u8] =
+    b"\xde\x12\x04\x95\x00\x00\x00\x00\x01\x00\x00\x00\x1c\x00\x00\x00$\x00\x00\x00\x00\x00\x00\x00,\x00\x00\x00\x02\x00\x00\x00,\x00\x00\x00\x05\x00\x00\x00/\x00\x00\x00H\xff\x00Salut\x00";
+
+/// `Hi` in the context `menu`.
+const WITH_CONTEXT: &[u8] =
+    b"\xde\x12\x04\x95\x00\x00\x00\x00\x01\x00\x00\x00\x1c\x00\x00\x00$\x00\x00\x00\x00\x00\x00\x00,\x00\x00\x00\x07\x00\x00\x00,\x00\x00\x00\x05\x00\x00\x004\x00\x00\x00menu\x04Hi\x00Salut\x00";
+
+/// Metadata alone.
+const WITH_HEADER: &[u8] =
+    b"\xde\x12\x04\x95\x00\x00\x00\x00\x01\x00\x00\x00\x1c\x00\x00\x00$\x00\x00\x00\x00\x00\x00\x00,\x00\x00\x00\x00\x00\x00\x00,\x00\x00\x00\x0d\x00\x00\x00-\x00\x00\x00\x00Language: fr\x0a\x00";
+
+fn fault_of(alloc: Global, bytes: &[u8]) -> Option<Error> {
+    Catalog::parse_bytes(alloc, bytes).err()
+}
+
+#[test]
+fn short_files(rt: HostRuntime) -> Result<(), Fail> {
+    let alloc = rt.alloc();
+    assert_eq!(rt; fault_of(alloc, &[1, 2, 3]), Some(Error::Eof));
+    assert_eq!(rt; fault_of(alloc, &[0; 28]), Some(Error::BadMagic));
+    let empty = b"\xde\x12\x04\x95\0\0\0\0\0\0\0\0\0\0\0\0\0\0\0\0\0\0\0\0\0\0\0\0";
+    let catalog = Catalog::parse_bytes(alloc, empty)?;
+    assert!(rt; catalog.find(None, "Hi", 1).is_none());
+    for len in 0..C1.len() {
+        assert_eq!(rt; fault_of(alloc, &C1[..len]), Some(Error::Eof));
+    }
+    Ok(())
+}
+
+#[test]
+fn hostile_files(rt: HostRuntime) -> Result<(), Fail> {
+    let alloc = rt.alloc();
+    assert_eq!(rt; fault_of(alloc, COUNT_PAST_END), Some(Error::Eof));
+    assert_eq!(rt; fault_of(alloc, TEXT_PAST_END), Some(Error::Eof));
+    assert_eq!(rt; fault_of(alloc, BAD_FORM), Some(Error::DecodingError));
+    assert_eq!(rt; fault_of(alloc, BAD_KEY), Some(Error::DecodingError));
+    assert_eq!(rt; fault_of(alloc, C1_BIG_ENDIAN), Some(Error::NotBuilt));
+    assert_eq!(rt; fault_of(alloc, WITH_CONTEXT), Some(Error::NotBuilt));
+    assert_eq!(rt; fault_of(alloc, WITH_HEADER), Some(Error::NotBuilt));
+    Ok(())
+}
+
+/// The text that a catalog has for an id and a count.
+fn found(catalog: &Catalog, id: &str, n: u64, number: usize, text: &str) -> bool {
+    match catalog.find(None, id, n) {
+        Some(form) => form.number == number && form.text == text,
+        None => false,
+    }
+}
+
+#[test]
+fn finds(rt: HostRuntime) -> Result<(), Fail> {
+    let alloc = rt.alloc();
+    let catalog = Catalog::parse_bytes(alloc, C1)?;
+    assert!(rt; found(&catalog, "Hi", 1, 0, "Salut"));
+    assert!(rt; catalog.find(None, "Hi", 2).is_none());
+    assert!(rt; catalog.find(Some("menu"), "Hi", 1).is_none());
+    let catalog = Catalog::parse_bytes(alloc, C2)?;
+    assert!(rt; found(&catalog, "Hello %s", 1, 0, "Bonjour %s"));
+    let catalog = Catalog::parse_bytes(alloc, ONE_TABLE)?;
+    assert!(rt; found(&catalog, "Hi", 1, 0, "Hi"));
+    Ok(())
+}
+
+#[test]
+fn last_of_equal_keys(rt: HostRuntime) -> Result<(), Fail> {
+    let catalog = Catalog::parse_bytes(rt.alloc(), TWICE)?;
+    assert!(rt; found(&catalog, "Hi", 1, 0, "Bonjour"));
+    assert!(rt; found(&catalog, "Text", 1, 0, "Tekstas"));
+    assert!(rt; found(&catalog, "Text", 0, 1, "Tekstai"));
+    assert!(rt; catalog.find(None, "Texts", 1).is_none());
+    assert!(rt; Catalog::empty(rt.alloc()).find(None, "Hi", 1).is_none());
+    Ok(())
+}
