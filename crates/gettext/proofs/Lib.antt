@@ -4,3 +4,4 @@ pub mod Keys
 pub mod Collecting
 pub mod Lookups
 pub mod Meaning
+pub mod Words

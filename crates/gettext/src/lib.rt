@@ -3,6 +3,7 @@
 
 mod catalog;
 mod error;
+mod expression;
 mod mo;
 mod table;
 

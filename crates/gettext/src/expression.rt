@@ -1,0 +1,98 @@
+//! Plural expressions (the GNU gettext manual, 'Additional functions for plural forms'): C's conditional
+//! expressions over one unsigned number of 64 bits.
+
+mod grammar;
+mod tokens;
+
+ghost use Rattle.std.specs.Prelude.{◌≡◌, IsErrOf, Some, None};
+ghost use Rattle.gettext.specs.Expression.{tree_of, value, apply, after_left};
+
+use crate::error::Error;
+
+use std::alloc::Global;
+
+/// A plural expression as a tree. Parentheses leave no node.
+#[derive(Debug, Drop, PartialEq)]
+pub enum Ast {
+    /// The second where the first isn't 0, else the third.
+    Ternary(Box<Ast>, Box<Ast>, Box<Ast>),
+    /// The count.
+    N,
+    Integer(u64),
+    Op(Operator, Box<Ast>, Box<Ast>),
+    Not(Box<Ast>),
+}
+
+/// An operator between two parts.
+#[derive(Clone, Copy, Debug, PartialEq, Eq)]
+pub enum Operator {
+    Equal,
+    NotEqual,
+    GreaterOrEqual,
+    SmallerOrEqual,
+    Greater,
+    Smaller,
+    And,
+    Or,
+    Modulo,
+    Add,
+    Subtract,
+    Multiply,
+    Divide,
+}
+
+impl Ast {
+    /// The value at a count. None where a division by zero is reached.
+    pub fn value(&self, n: u64) -> Option<u64>
+        ensures { result ≡ value (tree_of self.now) n }
+    {
+        match self {
+            Ast::N => Some(n),
+            Ast::Integer(number) => Some(*number),
+            Ast::Not(part) => Some(u64::from(part.value(n)? == 0)),
+            Ast::Ternary(condition, first, second) => {
+                if condition.value(n)? == 0 {
+                    second.value(n)
+                } else {
+                    first.value(n)
+                }
+            }
+            Ast::Op(Operator::And, left, right) => {
+                if left.value(n)? == 0 {
+                    return Some(0);
+                }
+                Some(u64::from(right.value(n)? != 0))
+            }
+            Ast::Op(Operator::Or, left, right) => {
+                if left.value(n)? != 0 {
+                    return Some(1);
+                }
+                Some(u64::from(right.value(n)? != 0))
+            }
+            Ast::Op(operator, left, right) => operator.apply(left.value(n)?, right.value(n)?),
+        }
+    }
+}
+
+impl Operator {
+    /// What the operator gives of two values, both of which it needs.
+    fn apply(self, left: u64, right: u64) -> Option<u64>
+        ensures { result ≡ apply self left right }
+    {
+        match self {
+            Operator::Equal => Some(u64::from(left == right)),
+            Operator::NotEqual => Some(u64::from(left != right)),
+            Operator::GreaterOrEqual => Some(u64::from(left >= right)),
+            Operator::SmallerOrEqual => Some(u64::from(left <= right)),
+            Operator::Greater => Some(u64::from(left > right)),
+            Operator::Smaller => Some(u64::from(left < right)),
+            Operator::And => Some(u64::from(left != 0 && right != 0)),
+            Operator::Or => Some(u64::from(left != 0 || right != 0)),
+            Operator::Modulo => left.checked_rem(right),
+            Operator::Add => Some(left.wrapping_add(right)),
+            Operator::Subtract => Some(left.wrapping_sub(right)),
+            Operator::Multiply => Some(left.wrapping_mul(right)),
+            Operator::Divide => left.checked_div(right),
+        }
+    }
+}
