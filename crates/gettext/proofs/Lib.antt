@@ -5,3 +5,6 @@ pub mod Collecting
 pub mod Lookups
 pub mod Meaning
 pub mod Words
+pub mod Chains
+pub mod Grammar
+pub mod GrammarComplete

@@ -5,3 +5,5 @@ pub mod Reading
 pub mod Fault
 pub mod Expression
 pub mod Tokens
+pub mod Grammar
+pub mod Parsing

@@ -1,0 +1,214 @@
+-- Reading by levels finds the parts of the grammar, and no others.
+use Rattle.std.proofs.Common.{◌≡◌, ◌≢◌, ℕ, zero, suc, ◌+◌, ◌-◌, ◌≤◌, ◌<◌, max, Bool, true, false, cond, ltb, eqb, List, [], ◌∷◌, ◌++◌, Option, Some, None, refl, sym, ap, subst, ◌∙◌, arith, append_assoc}
+use Rattle.std.proofs.lemmas.Bool.{lt-ltb, le-ltb, ltb-true, eqb-true, true≢false}
+use Rattle.gettext.specs.declared.expression.Operator.{Operator}
+use Rattle.gettext.specs.declared.expression.Operator.TheVariants as operator
+use Rattle.gettext.specs.declared.expression.tokens.Token.{Token}
+use Rattle.gettext.specs.declared.expression.tokens.Token.TheVariants as token
+use Rattle.gettext.specs.declared.expression.grammar.Level.{Level}
+use Rattle.gettext.specs.declared.expression.grammar.Level.TheVariants as level
+use Rattle.gettext.specs.Messages.{◌>>=◌}
+use Rattle.gettext.specs.Expression.{Expression, Count, Number, Negation, Binary, Conditional}
+use Rattle.gettext.specs.Grammar.{rank, tighter, level_of, IsPart, name, numeral, parentheses, negation, binary, conditional, looser}
+use Rattle.gettext.specs.Parsing.{Found, Parser, parse, at_level, atom, atom_or, leaf_at, after_open, after_close, after_bang, after_question, after_colon, unary, unary_or, operator_at, more, more_at, chain, choice, choice_at, closed, negated, joined, chosen, units, products, sums, relations, equalities, conjunctions, disjunctions, IsBinary}
+
+-- ---- what is read is a part
+
+-- the tokens begin with a part of the level, of at most that height
+pub record Takes (l : Level) (budget : ℕ) (ts : List Token) (p : Found) : Type 0 where
+  pub front : List Token
+  pub parts : ts ≡ front ++ p.rest
+  pub part : IsPart l front p.tree p.height
+  pub low : p.height ≤ budget
+
+pub record IsSound (l : Level) (budget : ℕ) (read : Parser) : Type 0 where
+  pub takes : (ts : List Token) (p : Found) → read ts ≡ Some p → Takes l budget ts p
+
+bind_some : {A B : Type 0} (o : Option A) (f : A → Option B) (y : B) → (o >>= f) ≡ Some y → (x : A) × (o ≡ Some x) × (f x ≡ Some y)
+bind_some None f y e = absurd cc
+bind_some (Some x) f y e = (x, refl, e)
+
+guarded : {A : Type 0} (b : Bool) (o : Option A) (y : A) → cond b o None ≡ Some y → (b ≡ true) × (o ≡ Some y)
+guarded true o y e = (refl, e)
+guarded false o y e = absurd cc
+
+open_is : (ts us : List Token) → after_open ts ≡ Some us → ts ≡ token.Open ∷ us
+open_is [] us e = absurd cc
+open_is (token.Open ∷ ts) us e = let same : ts ≡ us = cc in ap (λ (x : List Token). token.Open ∷ x) same
+open_is (t ∷ ts) us e = absurd cc
+
+close_is : (ts us : List Token) → after_close ts ≡ Some us → ts ≡ token.Close ∷ us
+close_is [] us e = absurd cc
+close_is (token.Close ∷ ts) us e = let same : ts ≡ us = cc in ap (λ (x : List Token). token.Close ∷ x) same
+close_is (t ∷ ts) us e = absurd cc
+
+bang_is : (ts us : List Token) → after_bang ts ≡ Some us → ts ≡ token.Bang ∷ us
+bang_is [] us e = absurd cc
+bang_is (token.Bang ∷ ts) us e = let same : ts ≡ us = cc in ap (λ (x : List Token). token.Bang ∷ x) same
+bang_is (t ∷ ts) us e = absurd cc
+
+question_is : (ts us : List Token) → after_question ts ≡ Some us → ts ≡ token.Question ∷ us
+question_is [] us e = absurd cc
+question_is (token.Question ∷ ts) us e = let same : ts ≡ us = cc in ap (λ (x : List Token). token.Question ∷ x) same
+question_is (t ∷ ts) us e = absurd cc
+
+colon_is : (ts us : List Token) → after_colon ts ≡ Some us → ts ≡ token.Colon ∷ us
+colon_is [] us e = absurd cc
+colon_is (token.Colon ∷ ts) us e = let same : ts ≡ us = cc in ap (λ (x : List Token). token.Colon ∷ x) same
+colon_is (t ∷ ts) us e = absurd cc
+
+same_rank : (l m : Level) → rank l ≡ rank m → l ≡ m
+same_rank l m e = by_rank l ∙ ap of_rank e ∙ sym (by_rank m) where
+  of_rank : ℕ → Level
+  of_rank zero = level.Atom
+  of_rank (suc zero) = level.Unary
+  of_rank (suc (suc zero)) = level.Product
+  of_rank (suc (suc (suc zero))) = level.Sum
+  of_rank (suc (suc (suc (suc zero)))) = level.Relation
+  of_rank (suc (suc (suc (suc (suc zero))))) = level.Equality
+  of_rank (suc (suc (suc (suc (suc (suc zero)))))) = level.Conjunction
+  of_rank (suc (suc (suc (suc (suc (suc (suc zero))))))) = level.Disjunction
+  of_rank (suc (suc (suc (suc (suc (suc (suc (suc n)))))))) = level.Conditional
+  by_rank : (l : Level) → l ≡ of_rank (rank l)
+  by_rank level.Atom = refl
+  by_rank level.Unary = refl
+  by_rank level.Product = refl
+  by_rank level.Sum = refl
+  by_rank level.Relation = refl
+  by_rank level.Equality = refl
+  by_rank level.Conjunction = refl
+  by_rank level.Disjunction = refl
+  by_rank level.Conditional = refl
+
+operator_is : (l : Level) (ts : List Token) (o : Operator) (us : List Token) → operator_at l ts ≡ Some (o, us) → (ts ≡ token.Operator o ∷ us) × (level_of o ≡ l)
+operator_is l [] o us e = absurd cc
+operator_is l (token.Operator p ∷ ts) o us e =
+    let g = guarded (eqb (rank (level_of p)) (rank l)) (Some (p, ts)) (o, us) e in
+    let same : (p, ts) ≡ (o, us) = cc in
+    let first : p ≡ o = ap (λ (x : Operator × List Token). x.0) same in
+    let rest : ts ≡ us = ap (λ (x : Operator × List Token). x.1) same in
+    (cc, rw (← first) (same_rank (level_of p) l (eqb-true _ _ g.0)))
+operator_is l (t ∷ ts) o us e = absurd cc
+
+leaf_takes : (b : ℕ) (ts : List Token) (p : Found) → leaf_at ts ≡ Some p → Takes level.Atom (suc b) ts p
+leaf_takes b [] p e = absurd cc
+leaf_takes b (token.Name ∷ ts) p e = subst (λ (q : Found). Takes level.Atom (suc b) (token.Name ∷ ts) q) (some_is (record { tree = Count; height = 1; rest = ts }) p e) (record { front = token.Name ∷ []; parts = refl; part = name; low = omega arith }) where
+  some_is : (x y : Found) → Some x ≡ Some y → x ≡ y
+  some_is x y e = cc
+leaf_takes b (token.Numeral k ∷ ts) p e = subst (λ (q : Found). Takes level.Atom (suc b) (token.Numeral k ∷ ts) q) (some_is (record { tree = Number k; height = 1; rest = ts }) p e) (record { front = token.Numeral k ∷ []; parts = refl; part = numeral; low = omega arith }) where
+  some_is : (x y : Found) → Some x ≡ Some y → x ≡ y
+  some_is x y e = cc
+leaf_takes b (t ∷ ts) p e = absurd cc
+
+pub is_some : {A : Type 0} (x y : A) → Some x ≡ Some y → x ≡ y
+is_some x y e = cc
+
+atom_sound : (b : ℕ) (inside : Parser) → IsSound level.Conditional b inside → IsSound level.Atom (suc b) (atom inside)
+atom_sound b inside sound = record { takes = λ ts p e. by_leaf ts p (leaf_at ts) (after_open ts) refl refl e } where
+  by_leaf : (ts : List Token) (p : Found) (l : Option Found) (o : Option (List Token)) → leaf_at ts ≡ l → after_open ts ≡ o → atom_or inside l o ≡ Some p → Takes level.Atom (suc b) ts p
+  by_leaf ts p (Some q) o l_is o_is e = leaf_takes b ts p (l_is ∙ e)
+  by_leaf ts p None None l_is o_is e = absurd cc
+  by_leaf ts p None (Some us) l_is o_is e =
+      let first = bind_some (inside us) (λ q. after_close q.rest >>= λ vs. Some (closed q vs)) p e in
+      let second = bind_some (after_close first.0.rest) (λ vs. Some (closed first.0 vs)) p first.2 in
+      let t = sound.takes us first.0 first.1 in
+      let shut = close_is first.0.rest second.0 second.1 in
+      let whole : ts ≡ (token.Open ∷ t.front ++ token.Close ∷ []) ++ second.0 = open_is ts us o_is ∙ ap (λ (x : List Token). token.Open ∷ x) (t.parts ∙ ap (λ (x : List Token). t.front ++ x) shut ∙ sym (append_assoc t.front (token.Close ∷ []) second.0)) in
+      subst (λ (q : Found). Takes level.Atom (suc b) ts q) (is_some (closed first.0 second.0) p second.2) (record { front = token.Open ∷ t.front ++ token.Close ∷ []; parts = whole; part = parentheses t.part; low = omega (arith, t.low) })
+
+unary_sound : (b : ℕ) (inner tight : Parser) → IsSound level.Unary b inner → IsSound level.Atom (suc b) tight → IsSound level.Unary (suc b) (unary inner tight)
+unary_sound b inner tight sound first = record { takes = λ ts p e. by_bang ts p (after_bang ts) refl e } where
+  by_bang : (ts : List Token) (p : Found) (o : Option (List Token)) → after_bang ts ≡ o → unary_or inner o (tight ts) ≡ Some p → Takes level.Unary (suc b) ts p
+  by_bang ts p None o_is e = let t = first.takes ts p e in record { front = t.front; parts = t.parts; part = looser (λ h. absurd cc) t.part; low = t.low }
+  by_bang ts p (Some us) o_is e =
+      let got = bind_some (inner us) (λ q. Some (negated q)) p e in
+      let t = sound.takes us got.0 got.1 in
+      let whole : ts ≡ (token.Bang ∷ t.front) ++ got.0.rest = bang_is ts us o_is ∙ ap (λ (x : List Token). token.Bang ∷ x) t.parts in
+      subst (λ (q : Found). Takes level.Unary (suc b) ts q) (is_some (negated got.0) p got.2) (record { front = token.Bang ∷ t.front; parts = whole; part = negation t.part; low = omega (arith, t.low) })
+
+module _ (b : ℕ) (l : Level) (right : Parser) (sound : IsSound (tighter l) b right) where
+  join_takes : (ts us : List Token) (o : Operator) (p r : Found) → Takes l (suc b) ts p → p.rest ≡ token.Operator o ∷ us → level_of o ≡ l → p.height < suc b → Takes (tighter l) b us r → Takes l (suc b) ts (joined o p r)
+  join_takes ts us o p r t rest at lt tr = record {
+    front = t.front ++ token.Operator o ∷ tr.front;
+    parts = t.parts ∙ ap (λ (x : List Token). t.front ++ x) (rest ∙ ap (λ (x : List Token). token.Operator o ∷ x) tr.parts) ∙ sym (append_assoc t.front (token.Operator o ∷ tr.front) r.rest);
+    part = binary at t.part tr.part;
+    low = omega (arith, tr.low);
+  }
+
+  step_sound : (next : Found → Option Found) (ts : List Token) (p q : Found) → Takes l (suc b) ts p → ((r : Found) → Takes l (suc b) ts r → next r ≡ Some q → Takes l (suc b) ts q) → more_at right (suc b) next p (operator_at l p.rest) ≡ Some q → Takes l (suc b) ts q
+  step_sound next ts p q t goes e = by_operator (operator_at l p.rest) refl e where
+    by_operator : (o : Option (Operator × List Token)) → operator_at l p.rest ≡ o → more_at right (suc b) next p o ≡ Some q → Takes l (suc b) ts q
+    by_operator None o_is e = subst (λ (x : Found). Takes l (suc b) ts x) (is_some p q e) t
+    by_operator (Some x) o_is e =
+        let at = operator_is l p.rest x.0 x.1 o_is in
+        let g = guarded (ltb p.height (suc b)) (right x.1 >>= λ r. next (joined x.0 p r)) q e in
+        let got = bind_some (right x.1) (λ r. next (joined x.0 p r)) q g.1 in
+        goes (joined x.0 p got.0) (join_takes ts x.1 x.0 p got.0 t at.0 at.1 (ltb-true _ _ g.0) (sound.takes x.1 got.0 got.1)) got.2
+
+  more_sound : (fuel : ℕ) (ts : List Token) (p q : Found) → Takes l (suc b) ts p → more l right (suc b) fuel p ≡ Some q → Takes l (suc b) ts q
+  unfolding more
+  more_sound zero ts p q t e = step_sound (λ r. None) ts p q t (λ r tr h. absurd cc) e
+  more_sound (suc fuel) ts p q t e = step_sound (more l right (suc b) fuel) ts p q t (λ r tr h. more_sound fuel ts r q tr h) e
+
+  chain_sound : (first : Parser) → l ≢ level.Atom → IsSound (tighter l) (suc b) first → IsSound l (suc b) (chain l right first (suc b))
+  chain_sound first ne tight = record { takes = λ ts p e.
+    let got = bind_some (first ts) (more l right (suc b) (suc b)) p e in
+    let t = tight.takes ts got.0 got.1 in
+    more_sound (suc b) ts got.0 p (record { front = t.front; parts = t.parts; part = looser ne t.part; low = t.low }) got.2 }
+
+choice_sound : (b : ℕ) (inner first : Parser) → IsSound level.Conditional b inner → IsSound level.Disjunction (suc b) first → IsSound level.Conditional (suc b) (choice inner first (suc b))
+choice_sound b inner first sound tight = record { takes = λ ts p e.
+  let got = bind_some (first ts) (λ c. choice_at inner (suc b) c (after_question c.rest)) p e in
+  by_question ts p got.0 (tight.takes ts got.0 got.1) (after_question got.0.rest) refl got.2 } where
+  by_question : (ts : List Token) (p c : Found) → Takes level.Disjunction (suc b) ts c → (o : Option (List Token)) → after_question c.rest ≡ o → choice_at inner (suc b) c o ≡ Some p → Takes level.Conditional (suc b) ts p
+  by_question ts p c t None o_is e = subst (λ (x : Found). Takes level.Conditional (suc b) ts x) (is_some c p e) (record { front = t.front; parts = t.parts; part = looser (λ h. absurd cc) t.part; low = t.low })
+  by_question ts p c t (Some us) o_is e =
+      let g = guarded (ltb c.height (suc b)) (inner us >>= λ a. after_colon a.rest >>= λ vs. inner vs >>= λ x. Some (chosen c a x)) p e in
+      let one = bind_some (inner us) (λ a. after_colon a.rest >>= λ vs. inner vs >>= λ x. Some (chosen c a x)) p g.1 in
+      let two = bind_some (after_colon one.0.rest) (λ vs. inner vs >>= λ x. Some (chosen c one.0 x)) p one.2 in
+      let three = bind_some (inner two.0) (λ x. Some (chosen c one.0 x)) p two.2 in
+      let ta = sound.takes us one.0 one.1 in
+      let tb = sound.takes two.0 three.0 three.1 in
+      let behind : us ≡ (ta.front ++ token.Colon ∷ tb.front) ++ three.0.rest = ta.parts ∙ ap (λ (x : List Token). ta.front ++ x) (colon_is one.0.rest two.0 two.1 ∙ ap (λ (x : List Token). token.Colon ∷ x) tb.parts) ∙ sym (append_assoc ta.front (token.Colon ∷ tb.front) three.0.rest) in
+      let whole : ts ≡ (t.front ++ token.Question ∷ (ta.front ++ token.Colon ∷ tb.front)) ++ three.0.rest = t.parts ∙ ap (λ (x : List Token). t.front ++ x) (question_is c.rest us o_is ∙ ap (λ (x : List Token). token.Question ∷ x) behind) ∙ sym (append_assoc t.front (token.Question ∷ (ta.front ++ token.Colon ∷ tb.front)) three.0.rest) in
+      let lt : c.height < suc b = ltb-true _ _ g.0 in
+      subst (λ (x : Found). Takes level.Conditional (suc b) ts x) (is_some (chosen c one.0 three.0) p three.2)
+      (record { front = t.front ++ token.Question ∷ (ta.front ++ token.Colon ∷ tb.front); parts = whole; part = conditional t.part ta.part tb.part; low = omega (arith, ta.low, tb.low) })
+
+module _ (b : ℕ) (inner : Level → Parser) (sound : (l : Level) → IsSound l b (inner l)) where
+  units_sound : IsSound level.Unary (suc b) (units inner)
+  units_sound = unary_sound b (inner level.Unary) (atom (inner level.Conditional)) (sound level.Unary) (atom_sound b (inner level.Conditional) (sound level.Conditional))
+
+  products_sound : IsSound level.Product (suc b) (products inner (suc b))
+  products_sound = chain_sound b level.Product (inner level.Unary) (sound level.Unary) (units inner) (λ h. absurd cc) units_sound
+
+  sums_sound : IsSound level.Sum (suc b) (sums inner (suc b))
+  sums_sound = chain_sound b level.Sum (inner level.Product) (sound level.Product) (products inner (suc b)) (λ h. absurd cc) products_sound
+
+  relations_sound : IsSound level.Relation (suc b) (relations inner (suc b))
+  relations_sound = chain_sound b level.Relation (inner level.Sum) (sound level.Sum) (sums inner (suc b)) (λ h. absurd cc) sums_sound
+
+  equalities_sound : IsSound level.Equality (suc b) (equalities inner (suc b))
+  equalities_sound = chain_sound b level.Equality (inner level.Relation) (sound level.Relation) (relations inner (suc b)) (λ h. absurd cc) relations_sound
+
+  conjunctions_sound : IsSound level.Conjunction (suc b) (conjunctions inner (suc b))
+  conjunctions_sound = chain_sound b level.Conjunction (inner level.Equality) (sound level.Equality) (equalities inner (suc b)) (λ h. absurd cc) equalities_sound
+
+  disjunctions_sound : IsSound level.Disjunction (suc b) (disjunctions inner (suc b))
+  disjunctions_sound = chain_sound b level.Disjunction (inner level.Conjunction) (sound level.Conjunction) (conjunctions inner (suc b)) (λ h. absurd cc) conjunctions_sound
+
+  at_level_sound : (l : Level) → IsSound l (suc b) (at_level inner (suc b) l)
+  at_level_sound level.Atom = atom_sound b (inner level.Conditional) (sound level.Conditional)
+  at_level_sound level.Unary = units_sound
+  at_level_sound level.Product = products_sound
+  at_level_sound level.Sum = sums_sound
+  at_level_sound level.Relation = relations_sound
+  at_level_sound level.Equality = equalities_sound
+  at_level_sound level.Conjunction = conjunctions_sound
+  at_level_sound level.Disjunction = disjunctions_sound
+  at_level_sound level.Conditional = choice_sound b (inner level.Conditional) (disjunctions inner (suc b)) (sound level.Conditional) disjunctions_sound
+
+pub parse_sound : (n : ℕ) (l : Level) → IsSound l n (parse n l)
+unfolding parse
+parse_sound zero l = record { takes = λ ts p e. absurd cc }
+parse_sound (suc b) l = record { takes = (at_level_sound b (parse b) (parse_sound b) l).takes }

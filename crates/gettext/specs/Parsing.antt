@@ -1,0 +1,151 @@
+-- Reading an expression from left to right, as a function on tokens. Private contracts cite it; the grammar decides.
+use Rattle.std.specs.Prelude.{◌≡◌, ℕ, zero, suc, ◌+◌, max, List, [], ◌∷◌, Option, Some, None, Result, MatchResult, ◌⊎◌, nat_lt, ◌==◌, if◌then◌else◌}
+use Rattle.gettext.specs.declared.error.Error.{Error}
+use Rattle.gettext.specs.declared.error.Error.TheVariants.{NoMemory, PluralParsing}
+use Rattle.gettext.specs.declared.expression.Operator.{Operator}
+use Rattle.gettext.specs.declared.expression.tokens.Token.{Token}
+use Rattle.gettext.specs.declared.expression.tokens.Token.TheVariants as token
+use Rattle.gettext.specs.declared.expression.grammar.Level.{Level}
+use Rattle.gettext.specs.declared.expression.grammar.Part.{Part}
+use Rattle.gettext.specs.declared.expression.grammar.Level.TheVariants as level
+use Rattle.gettext.specs.Messages.{◌>>=◌}
+use Rattle.gettext.specs.Expression.{tree_of, Expression, Count, Number, Negation, Binary, Conditional}
+use Rattle.gettext.specs.Grammar.{rank, tighter, level_of}
+
+-- a part, its height, and the tokens behind it
+pub record Found : Type 0 where
+  pub tree : Expression
+  pub height : ℕ
+  pub rest : List Token
+
+abbrev pub found_of : Part → Found
+found_of p = record { tree = tree_of p.tree; height = p.height; rest = p.rest.now }
+
+abbrev pub Parser : Type 0
+Parser = List Token → Option Found
+
+abbrev pub IsParsed : {X : Type 0} → (X → Found) → Result X Error → Option Found → Type 0
+IsParsed view result found = MatchResult result (λ x. found ≡ Some (view x)) (λ e. (e ≡ NoMemory) ⊎ ((e ≡ PluralParsing) × (found ≡ None)))
+
+abbrev pub after_bang : List Token → Option (List Token)
+after_bang (token.Bang ∷ ts) = Some ts
+after_bang ts = None
+
+abbrev pub after_open : List Token → Option (List Token)
+after_open (token.Open ∷ ts) = Some ts
+after_open ts = None
+
+abbrev pub after_close : List Token → Option (List Token)
+after_close (token.Close ∷ ts) = Some ts
+after_close ts = None
+
+abbrev pub after_question : List Token → Option (List Token)
+after_question (token.Question ∷ ts) = Some ts
+after_question ts = None
+
+abbrev pub after_colon : List Token → Option (List Token)
+after_colon (token.Colon ∷ ts) = Some ts
+after_colon ts = None
+
+abbrev pub operator_at : Level → List Token → Option (Operator × List Token)
+operator_at l (token.Operator o ∷ ts) = if rank (level_of o) == rank l then Some (o, ts) else None
+operator_at l ts = None
+
+abbrev pub leaf : Expression → List Token → Option Found
+leaf e ts = Some (record { tree = e; height = 1; rest = ts })
+
+abbrev pub leaf_at : List Token → Option Found
+leaf_at (token.Name ∷ ts) = leaf Count ts
+leaf_at (token.Numeral k ∷ ts) = leaf (Number k) ts
+leaf_at ts = None
+
+abbrev pub closed : Found → List Token → Found
+closed p ts = record { tree = p.tree; height = p.height + 1; rest = ts }
+
+abbrev pub atom_or : Parser → Option Found → Option (List Token) → Option Found
+atom_or inside (Some p) opened = Some p
+atom_or inside None None = None
+atom_or inside None (Some ts) = inside ts >>= λ p. after_close p.rest >>= λ us. Some (closed p us)
+
+abbrev pub atom : Parser → Parser
+atom inside ts = atom_or inside (leaf_at ts) (after_open ts)
+
+abbrev pub negated : Found → Found
+negated p = record { tree = Negation p.tree; height = p.height + 1; rest = p.rest }
+
+abbrev pub unary_or : Parser → Option (List Token) → Option Found → Option Found
+unary_or inner None tight = tight
+unary_or inner (Some ts) tight = inner ts >>= λ p. Some (negated p)
+
+abbrev pub unary : Parser → Parser → Parser
+unary inner tight ts = unary_or inner (after_bang ts) (tight ts)
+
+abbrev pub joined : Operator → Found → Found → Found
+joined o p q = record { tree = Binary o p.tree q.tree; height = max p.height q.height + 1; rest = q.rest }
+
+-- what an operator that follows a part does
+abbrev pub more_at : Parser → ℕ → (Found → Option Found) → Found → Option (Operator × List Token) → Option Found
+more_at right budget next p None = Some p
+more_at right budget next p (Some x) = if nat_lt p.height budget then (right x.1 >>= λ q. next (joined x.0 p q)) else None
+
+unfoldable pub more : Level → Parser → ℕ → ℕ → Found → Option Found
+more l right budget zero p = more_at right budget (λ q. None) p (operator_at l p.rest)
+more l right budget (suc fuel) p = more_at right budget (more l right budget fuel) p (operator_at l p.rest)
+
+abbrev pub chain : Level → Parser → Parser → ℕ → Parser
+chain l right first budget ts = first ts >>= more l right budget budget
+
+abbrev pub chosen : Found → Found → Found → Found
+chosen c a b = record { tree = Conditional c.tree a.tree b.tree; height = max c.height (max a.height b.height) + 1; rest = b.rest }
+
+abbrev pub choice_at : Parser → ℕ → Found → Option (List Token) → Option Found
+choice_at inner budget c None = Some c
+choice_at inner budget c (Some ts) =
+    if nat_lt c.height budget then (inner ts >>= λ a. after_colon a.rest >>= λ us. inner us >>= λ b. Some (chosen c a b)) else None
+
+abbrev pub choice : Parser → Parser → ℕ → Parser
+choice inner first budget ts = first ts >>= λ c. choice_at inner budget c (after_question c.rest)
+
+abbrev pub units : (Level → Parser) → Parser
+units inner = unary (inner level.Unary) (atom (inner level.Conditional))
+
+abbrev pub products : (Level → Parser) → ℕ → Parser
+products inner budget = chain level.Product (inner level.Unary) (units inner) budget
+
+abbrev pub sums : (Level → Parser) → ℕ → Parser
+sums inner budget = chain level.Sum (inner level.Product) (products inner budget) budget
+
+abbrev pub relations : (Level → Parser) → ℕ → Parser
+relations inner budget = chain level.Relation (inner level.Sum) (sums inner budget) budget
+
+abbrev pub equalities : (Level → Parser) → ℕ → Parser
+equalities inner budget = chain level.Equality (inner level.Relation) (relations inner budget) budget
+
+abbrev pub conjunctions : (Level → Parser) → ℕ → Parser
+conjunctions inner budget = chain level.Conjunction (inner level.Equality) (equalities inner budget) budget
+
+abbrev pub disjunctions : (Level → Parser) → ℕ → Parser
+disjunctions inner budget = chain level.Disjunction (inner level.Conjunction) (conjunctions inner budget) budget
+
+abbrev pub at_level : (Level → Parser) → ℕ → Level → Parser
+at_level inner budget level.Atom = atom (inner level.Conditional)
+at_level inner budget level.Unary = units inner
+at_level inner budget level.Product = products inner budget
+at_level inner budget level.Sum = sums inner budget
+at_level inner budget level.Relation = relations inner budget
+at_level inner budget level.Equality = equalities inner budget
+at_level inner budget level.Conjunction = conjunctions inner budget
+at_level inner budget level.Disjunction = disjunctions inner budget
+at_level inner budget level.Conditional = choice (inner level.Conditional) (disjunctions inner budget) budget
+
+-- the part of a level that the tokens begin with, where its height is at most the budget
+unfoldable pub parse : ℕ → Level → Parser
+parse zero l ts = None
+parse (suc budget) l ts = at_level (parse budget) (suc budget) l ts
+
+-- the levels of binary operators
+abbrev pub IsBinary : Level → Type 0
+IsBinary level.Atom = ⊥
+IsBinary level.Unary = ⊥
+IsBinary level.Conditional = ⊥
+IsBinary l = Unit {0}
