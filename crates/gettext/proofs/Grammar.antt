@@ -69,6 +69,7 @@ same_rank l m e = by_rank l ∙ ap of_rank e ∙ sym (by_rank m) where
   of_rank (suc (suc (suc (suc (suc (suc zero)))))) = level.Conjunction
   of_rank (suc (suc (suc (suc (suc (suc (suc zero))))))) = level.Disjunction
   of_rank (suc (suc (suc (suc (suc (suc (suc (suc n)))))))) = level.Conditional
+
   by_rank : (l : Level) → l ≡ of_rank (rank l)
   by_rank level.Atom = refl
   by_rank level.Unary = refl
@@ -151,15 +152,19 @@ module _ (b : ℕ) (l : Level) (right : Parser) (sound : IsSound (tighter l) b r
   more_sound (suc fuel) ts p q t e = step_sound (more l right (suc b) fuel) ts p q t (λ r tr h. more_sound fuel ts r q tr h) e
 
   chain_sound : (first : Parser) → l ≢ level.Atom → IsSound (tighter l) (suc b) first → IsSound l (suc b) (chain l right first (suc b))
-  chain_sound first ne tight = record { takes = λ ts p e.
-    let got = bind_some (first ts) (more l right (suc b) (suc b)) p e in
-    let t = tight.takes ts got.0 got.1 in
-    more_sound (suc b) ts got.0 p (record { front = t.front; parts = t.parts; part = looser ne t.part; low = t.low }) got.2 }
+  chain_sound first ne tight = record {
+    takes = λ ts p e.
+        let got = bind_some (first ts) (more l right (suc b) (suc b)) p e in
+        let t = tight.takes ts got.0 got.1 in
+        more_sound (suc b) ts got.0 p (record { front = t.front; parts = t.parts; part = looser ne t.part; low = t.low }) got.2;
+  }
 
 choice_sound : (b : ℕ) (inner first : Parser) → IsSound level.Conditional b inner → IsSound level.Disjunction (suc b) first → IsSound level.Conditional (suc b) (choice inner first (suc b))
-choice_sound b inner first sound tight = record { takes = λ ts p e.
-  let got = bind_some (first ts) (λ c. choice_at inner (suc b) c (after_question c.rest)) p e in
-  by_question ts p got.0 (tight.takes ts got.0 got.1) (after_question got.0.rest) refl got.2 } where
+choice_sound b inner first sound tight = record {
+  takes = λ ts p e.
+      let got = bind_some (first ts) (λ c. choice_at inner (suc b) c (after_question c.rest)) p e in
+      by_question ts p got.0 (tight.takes ts got.0 got.1) (after_question got.0.rest) refl got.2;
+} where
   by_question : (ts : List Token) (p c : Found) → Takes level.Disjunction (suc b) ts c → (o : Option (List Token)) → after_question c.rest ≡ o → choice_at inner (suc b) c o ≡ Some p → Takes level.Conditional (suc b) ts p
   by_question ts p c t None o_is e = subst (λ (x : Found). Takes level.Conditional (suc b) ts x) (is_some c p e) (record { front = t.front; parts = t.parts; part = looser (λ h. absurd cc) t.part; low = t.low })
   by_question ts p c t (Some us) o_is e =

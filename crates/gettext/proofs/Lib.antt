@@ -8,3 +8,4 @@ pub mod Words
 pub mod Chains
 pub mod Grammar
 pub mod GrammarComplete
+pub mod Expressions

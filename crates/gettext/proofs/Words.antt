@@ -36,27 +36,27 @@ word_found text all r same e =
     ap (λ (ws : List (List ℕ × Token)). option_map measured (find (λ w. starts_with nat_eq text w.0) ws)) (sym same)
     ∙ ap (option_map measured) (find-map (λ w. starts_with nat_eq text w.0) shown all ∙ ap (option_map shown) (sym e))
     ∙ both r where
-  both : (r : Option (Bor (Bor (List ℕ) × Token))) → option_map measured (option_map shown (option_map (λ x. x.now) r)) ≡ option_map (λ x. measured (shown x.now)) r
-  both None = refl
-  both (Some x) = refl
+      both : (r : Option (Bor (Bor (List ℕ) × Token))) → option_map measured (option_map shown (option_map (λ x. x.now) r)) ≡ option_map (λ x. measured (shown x.now)) r
+      both None = refl
+      both (Some x) = refl
 
 -- ---- what is found
 
-and_true : (a b : Bool) → (a && b) ≡ true → (a ≡ true) × (b ≡ true)
+pub and_true : (a b : Bool) → (a && b) ≡ true → (a ≡ true) × (b ≡ true)
 and_true true b e = (refl, e)
 and_true false b e = absurd cc
 
 -- what a search finds passes its test, and any test that all pass
-find_passes : {X : Type 0} (p q : X → Bool) (xs : List X) (x : X) → list_all q xs ≡ true → find p xs ≡ Some x → (p x ≡ true) × (q x ≡ true)
+pub find_passes : {X : Type 0} (p q : X → Bool) (xs : List X) (x : X) → list_all q xs ≡ true → find p xs ≡ Some x → (p x ≡ true) × (q x ≡ true)
 find_passes p q [] x all e = absurd cc
 find_passes p q (y ∷ ys) x all e =
     let parts = and_true (q y) (list_all q ys) all in
     by_test (p y) refl parts.0 (λ e. find_passes p q ys x parts.1 e) e where
-  by_test : (b : Bool) → p y ≡ b → q y ≡ true → (find p ys ≡ Some x → (p x ≡ true) × (q x ≡ true)) → cond b (Some y) (find p ys) ≡ Some x → (p x ≡ true) × (q x ≡ true)
-  by_test true h first rest e = let same : y ≡ x = cc in (rw (← same) h, rw (← same) first)
-  by_test false h first rest e = rest e
+      by_test : (b : Bool) → p y ≡ b → q y ≡ true → (find p ys ≡ Some x → (p x ≡ true) × (q x ≡ true)) → cond b (Some y) (find p ys) ≡ Some x → (p x ≡ true) × (q x ≡ true)
+      by_test true h first rest e = let same : y ≡ x = cc in (rw (← same) h, rw (← same) first)
+      by_test false h first rest e = rest e
 
-starts-prefix : (text w : List ℕ) → starts_with nat_eq text w ≡ true → w ≡ take (length w) text
+pub starts-prefix : (text w : List ℕ) → starts_with nat_eq text w ≡ true → w ≡ take (length w) text
 starts-prefix text w e = (bytes_eq-Decides w (take (length w) text)).0 e
 
 pub measured_inside : (text : List ℕ) (p : Token × ℕ) → option_map measured (word_at text) ≡ Some p → (0 < p.1) × (p.1 ≤ length text)
@@ -129,7 +129,7 @@ pub record IsReading (text : List ℕ) (tokens : List Token) (rest : List ℕ) :
 pub begins : (text : List ℕ) → IsReading text [] text
 begins text = record { on = λ ts r. r; back = λ us r. (us, r, refl) }
 
-unspace : (c : ℕ) (t : List ℕ) (ts : List Token) → is_space c ≡ true → Reads (c ∷ t) ts → Reads t ts
+pub unspace : (c : ℕ) (t : List ℕ) (ts : List Token) → is_space c ≡ true → Reads (c ∷ t) ts → Reads t ts
 unspace c t ts h (space e r) = r
 unspace c t ts h (token e at r) = absurd cc
 
@@ -138,7 +138,7 @@ passes_space text tokens rest c t e h r =
     let r' = rw e at r in
     record { on = λ ts q. r'.on ts (space h q); back = λ us q. let b = r'.back us q in (b.0, unspace c t b.0 h b.1, b.2) }
 
-untoken : (c : ℕ) (t : List ℕ) (us : List Token) (k : Token) (len : ℕ) → is_space c ≡ false → token_at (c ∷ t) ≡ Some (k, len) → Reads (c ∷ t) us → (ts : List Token) × Reads (drop len (c ∷ t)) ts × (us ≡ k ∷ ts)
+pub untoken : (c : ℕ) (t : List ℕ) (us : List Token) (k : Token) (len : ℕ) → is_space c ≡ false → token_at (c ∷ t) ≡ Some (k, len) → Reads (c ∷ t) us → (ts : List Token) × Reads (drop len (c ∷ t)) ts × (us ≡ k ∷ ts)
 untoken c t us k len h at (space e r) = absurd cc
 untoken c t us k len h at (token {t = t'} {len = len'} {tokens = ts} e at' r) =
     let same : (t', len') ≡ (k, len) = cc in
@@ -154,10 +154,10 @@ passes_token text tokens rest c t k len e h at r =
     record {
       on = λ ts q. let q' : Reads (drop len (c ∷ t)) ts = rw (← e) q in let whole : Reads text (tokens ++ k ∷ ts) = r.on (k ∷ ts) (rw e (token h at' q')) in rw append_assoc whole;
       back = λ us q.
-        let b = r.back us q in
-        let first : Reads (c ∷ t) b.0 = rw (← e) b.1 in
-        let u = untoken c t b.0 k len h at' first in
-        (u.0, rw e u.1, b.2 ∙ ap (λ (ts : List Token). tokens ++ ts) u.2 ∙ sym (append_assoc tokens (k ∷ []) u.0));
+          let b = r.back us q in
+          let first : Reads (c ∷ t) b.0 = rw (← e) b.1 in
+          let u = untoken c t b.0 k len h at' first in
+          (u.0, rw e u.1, b.2 ∙ ap (λ (ts : List Token). tokens ++ ts) u.2 ∙ sym (append_assoc tokens (k ∷ []) u.0));
     }
 
 pub unreadable : (text : List ℕ) (tokens : List Token) (rest : List ℕ) (c : ℕ) (t : List ℕ) → rest ≡ c ∷ t → is_space c ≡ false → token_at rest ≡ None → IsReading text tokens rest → IsUnreadable text

@@ -64,10 +64,20 @@ pub data IsPart : Level → List Token → Expression → ℕ → Type 0 where
 abbrev pub height_limit : ℕ
 height_limit = 64
 
+-- all of the tokens are the expression
+pub record IsWhole (tokens : List Token) (e : Expression) : Type 0 where
+  pub height : ℕ
+  pub part : IsPart level.Conditional tokens e height
+  pub low : height ≤ height_limit
+
+pub record IsNoWhole (tokens : List Token) : Type 0 where
+  pub none : (e : Expression) → IsWhole tokens e → ⊥
+
 -- the text is the expression
 pub record expr (text : List ℕ) (e : Expression) : Type 0 where
   pub tokens : List Token
-  pub height : ℕ
   pub read : Reads text tokens
-  pub whole : IsPart level.Conditional tokens e height
-  pub low : height ≤ height_limit
+  pub whole : IsWhole tokens e
+
+pub record IsNoExpression (text : List ℕ) : Type 0 where
+  pub none : (e : Expression) → expr text e → ⊥

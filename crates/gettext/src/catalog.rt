@@ -1,6 +1,6 @@
 //! Catalogs of messages, and the look-up of a message's form.
 
-ghost use Rattle.std.specs.Prelude.{◌≡◌, ℕ, ◌==◌, ◌⊎◌, ◌↔◌, List, [], Option, Some, None, Result, IfOk, MatchResult, IsErrAnd, if◌then◌else◌};
+ghost use Rattle.std.specs.Prelude.{◌≡◌, ℕ, ◌⊎◌, ◌↔◌, List, [], Option, Some, None, Result, IfOk, MatchResult, IsErrAnd};
 ghost use Rattle.std.specs.Option.{option_map};
 ghost use Rattle.std.specs.Str.{chars};
 ghost use Rattle.gettext.specs.declared.error.Error.{Error};
@@ -10,6 +10,7 @@ ghost use Rattle.gettext.specs.Mo.{entries, mo_fault};
 
 use crate::error::Error;
 use crate::mo;
+use crate::resolver::default_resolver;
 use crate::table::Table;
 use std::alloc::Global;
 
@@ -68,13 +69,6 @@ impl Catalog {
         let text = self.entries.form(context, id, number)?;
         Some(Form { number, text })
     }
-}
-
-/// The number of the form for `n` where a file names no rule: 0 for 1, and 1 for every other count.
-pub fn default_resolver(n: u64) -> usize
-    ensures { result ≡ (if n == 1 then 0 else 1) }
-{
-    if n == 1 { 0 } else { 1 }
 }
 
 /// A file has no fault exactly where it means something, and then it means one thing.

@@ -4,12 +4,19 @@
 mod grammar;
 mod tokens;
 
-ghost use Rattle.std.specs.Prelude.{◌≡◌, IsErrOf, Some, None};
-ghost use Rattle.gettext.specs.Expression.{tree_of, value, apply, after_left};
+ghost use Rattle.std.specs.Prelude.{◌≡◌, ◌⊎◌, ℕ, List, IfOk, IfErr};
+ghost use Rattle.std.specs.Str.{chars};
+ghost use Rattle.gettext.specs.declared.error.Error.TheVariants.{NoMemory, PluralParsing};
+ghost use Rattle.gettext.specs.Expression.{Expression, tree_of, value, apply};
+ghost use Rattle.gettext.specs.Grammar.{expr, IsWhole, IsNoWhole, IsNoExpression};
 
 use crate::error::Error;
-
+use grammar::{Level, part_at};
 use std::alloc::Global;
+use tokens::{Token, tokens_of};
+
+/// The greatest height of an expression.
+const HEIGHT_LIMIT: u32 = 64;
 
 /// A plural expression as a tree. Parentheses leave no node.
 #[derive(Debug, Drop, PartialEq)]
@@ -42,8 +49,18 @@ pub enum Operator {
 }
 
 impl Ast {
+    /// The tree of a plural expression. A text that isn't one, or whose height passes 64, is
+    /// `PluralParsing`: parentheses count for the height, and leave no node.
+    pub fn parse(alloc: Global, src: &str) -> Result<Ast, Error>
+        ensures ok { IfOk result (λ ast. expr (chars src.now) (tree_of ast)) }
+        ensures err { IfErr result (λ e. (e ≡ NoMemory) ⊎ ((e ≡ PluralParsing) × IsNoExpression (chars src.now))) }
+    {
+        let tokens = tokens_of(alloc, src.as_bytes())?;
+        whole(alloc, &tokens)
+    }
+
     /// The value at a count. None where a division by zero is reached.
-    pub fn value(&self, n: u64) -> Option<u64>
+    pub(crate) fn value(&self, n: u64) -> Option<u64>
         ensures { result ≡ value (tree_of self.now) n }
     {
         match self {
@@ -73,6 +90,23 @@ impl Ast {
         }
     }
 }
+
+/// The expression that all of the tokens are.
+fn whole(alloc: Global, tokens: &[Token]) -> Result<Ast, Error>
+    ensures ok { IfOk result (λ ast. IsWhole tokens.now (tree_of ast)) }
+    ensures err { IfErr result (λ e. (e ≡ NoMemory) ⊎ ((e ≡ PluralParsing) × IsNoWhole tokens.now)) }
+{
+    let part = part_at(alloc, tokens, Level::Conditional, HEIGHT_LIMIT)?;
+    if !part.rest.is_empty() {
+        return Err(Error::PluralParsing);
+    }
+    Ok(part.tree)
+}
+
+/// A text has at most one tree.
+pub fn one_tree()
+    ensures { (t : List ℕ) (e f : Expression) → expr t e → expr t f → e ≡ f }
+{}
 
 impl Operator {
     /// What the operator gives of two values, both of which it needs.

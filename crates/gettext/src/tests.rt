@@ -109,3 +109,66 @@ fn last_of_equal_keys(rt: HostRuntime) -> Result<(), Fail> {
     assert!(rt; Catalog::empty(rt.alloc()).find(None, "Hi", 1).is_none());
     Ok(())
 }
+
+fn value_of(alloc: Global, text: &str, n: u64) -> Option<usize> {
+    Resolver::Expr(Ast::parse(alloc, text).ok()?).resolve(n)
+}
+
+fn is_refused(alloc: Global, text: &str) -> bool {
+    Ast::parse(alloc, text).err() == Some(Error::PluralParsing)
+}
+
+#[test]
+fn expressions(rt: HostRuntime) -> Result<(), Fail> {
+    let alloc = rt.alloc();
+    let text = "n == 42 ? n : 6 && n < 7";
+    assert_eq!(rt; value_of(alloc, text, 42), Some(42));
+    assert_eq!(rt; value_of(alloc, text, 3), Some(1));
+    assert_eq!(rt; value_of(alloc, text, 9), Some(0));
+    assert!(rt; Ast::parse(alloc, "(n)")? == Ast::N);
+    let text = "n%10==1 && n%100!=11 ? 0 : n%10>=2 && n%10<=4 && (n%100<10 || n%100>=20) ? 1 : 2";
+    assert_eq!(rt; value_of(alloc, text, 1), Some(0));
+    assert_eq!(rt; value_of(alloc, text, 22), Some(1));
+    assert_eq!(rt; value_of(alloc, text, 112), Some(2));
+    assert_eq!(rt; value_of(alloc, "n ? 1 % 0 : 0", 0), Some(0));
+    assert_eq!(rt; value_of(alloc, "n ? 1 % 0 : 0", 1), None);
+    Ok(())
+}
+
+#[test]
+fn sums_and_products(rt: HostRuntime) -> Result<(), Fail> {
+    let alloc = rt.alloc();
+    assert_eq!(rt; value_of(alloc, "n-1", 0), Some(usize::MAX));
+    assert_eq!(rt; value_of(alloc, "n+1*2", 1), Some(3));
+    assert_eq!(rt; value_of(alloc, "n*2%3", 2), Some(1));
+    assert_eq!(rt; value_of(alloc, "n-1-1", 5), Some(3));
+    assert_eq!(rt; value_of(alloc, "7/n", 2), Some(3));
+    assert_eq!(rt; value_of(alloc, "7/n", 0), None);
+    assert_eq!(rt; value_of(alloc, "18446744073709551615+1", 0), Some(0));
+    assert_eq!(rt; value_of(alloc, "n*n", 4_294_967_296), Some(0));
+    assert_eq!(rt; value_of(alloc, "n/2+1==2", 3), Some(1));
+    Ok(())
+}
+
+#[test]
+fn no_expressions(rt: HostRuntime) -> Result<(), Fail> {
+    let alloc = rt.alloc();
+    assert!(rt; is_refused(alloc, ""));
+    assert!(rt; is_refused(alloc, "("));
+    assert!(rt; is_refused(alloc, "1:n?2"));
+    assert!(rt; is_refused(alloc, "-n"));
+    assert!(rt; is_refused(alloc, "n+"));
+    assert!(rt; is_refused(alloc, "n < = 1"));
+    assert!(rt; is_refused(alloc, "18446744073709551616"));
+    let low =
+        "(((((((((((((((((((((((((((((((((((((((((((((((((((((((((((((((n)))))))))))))))))))))))))))))))))))))))))))))))))))))))))))))))";
+    let high =
+        "((((((((((((((((((((((((((((((((((((((((((((((((((((((((((((((((n))))))))))))))))))))))))))))))))))))))))))))))))))))))))))))))))";
+    assert!(rt; Ast::parse(alloc, low).is_ok());
+    assert!(rt; is_refused(alloc, high));
+    let low = "!!!!!!!!!!!!!!!!!!!!!!!!!!!!!!!!!!!!!!!!!!!!!!!!!!!!!!!!!!!!!!!n";
+    let high = "!!!!!!!!!!!!!!!!!!!!!!!!!!!!!!!!!!!!!!!!!!!!!!!!!!!!!!!!!!!!!!!!n";
+    assert!(rt; Ast::parse(alloc, low).is_ok());
+    assert!(rt; is_refused(alloc, high));
+    Ok(())
+}

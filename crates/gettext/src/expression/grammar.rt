@@ -131,7 +131,12 @@ pub struct Part<'a> {
 
 /// The part of a level that the tokens begin with, if its height is at most `budget`.
 #[cycle(grammar)]
-pub fn part_at(alloc: Global, tokens: &[Token], level: Level, budget: u32) -> Result<Part<'_>, Error>
+pub fn part_at(
+    alloc: Global,
+    tokens: &[Token],
+    level: Level,
+    budget: u32,
+) -> Result<Part<'_>, Error>
     ensures found { IsParsed found_of result (parse budget level tokens.now) }
     ensures low { IfOk result (λ p. p.height ≤ budget) }
 {
@@ -239,7 +244,11 @@ fn leaf(tokens: &[Token]) -> Option<Part<'_>>
         Token::Numeral(number) => Ast::Integer(*number),
         _ => return None,
     };
-    Some(Part { tree, height: 1, rest })
+    Some(Part {
+        tree,
+        height: 1,
+        rest,
+    })
 }
 
 /// A part in parentheses, which leave no node.
