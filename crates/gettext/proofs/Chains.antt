@@ -1,7 +1,5 @@
 -- The steps of reading a part.
-use Rattle.std.proofs.Common.{◌≡◌, ℕ, zero, suc, ◌+◌, ◌-◌, ◌≤◌, ◌<◌, max, Bool, true, false, cond, ltb, List, [], ◌∷◌, Option, Some, None, Result, Ok, Err, refl, sym, ap, subst, ◌∙◌, arith, ◌⊎◌, inl, inr}
-use Rattle.std.specs.Option.{option_map}
-use Rattle.std.specs.Borrow.{Bor}
+use Rattle.std.proofs.Common.{◌≡◌, ℕ, zero, suc, ◌+◌, ◌-◌, ◌≤◌, ◌<◌, max, List, Option, Some, None, Result, Ok, Err, refl, sym, ap, subst, ◌∙◌, arith, ◌⊎◌, inl, inr}
 use Rattle.std.specs.Result.{MatchResult}
 use Rattle.std.proofs.lemmas.Bool.{lt-ltb, le-ltb}
 use Rattle.gettext.specs.declared.error.Error.{Error}
@@ -13,7 +11,7 @@ use Rattle.gettext.specs.declared.expression.grammar.Level.TheVariants as level
 use Rattle.gettext.specs.declared.expression.grammar.Part.{Part}
 use Rattle.gettext.specs.Messages.{◌>>=◌}
 use Rattle.gettext.specs.Grammar.{tighter}
-use Rattle.gettext.specs.Parsing.{Found, Parser, found_of, parse, at_level, atom_or, leaf_at, after_open, after_close, after_bang, after_question, after_colon, unary_or, operator_at, more, more_at, choice_at, closed, negated, joined, chosen, IsBinary, IsParsed}
+use Rattle.gettext.specs.Parsing.{Found, found_of, parse, at_level, atom_or, leaf_at, after_open, after_close, after_bang, after_question, after_colon, unary_or, operator_at, more, choice_at, closed, negated, joined, chosen, IsBinary, IsParsed}
 
 -- an inner part that isn't there leaves the whole out
 pub fails_by : {e : Error} (inner found : Option Found) → (e ≡ NoMemory) ⊎ ((e ≡ PluralParsing) × (inner ≡ None)) → (inner ≡ None → found ≡ None) → (e ≡ NoMemory) ⊎ ((e ≡ PluralParsing) × (found ≡ None))

@@ -1,16 +1,15 @@
 -- Reading by levels finds the parts of the grammar, and no others.
-use Rattle.std.proofs.Common.{◌≡◌, ◌≢◌, ℕ, zero, suc, ◌+◌, ◌-◌, ◌≤◌, ◌<◌, max, Bool, true, false, cond, ltb, eqb, List, [], ◌∷◌, ◌++◌, Option, Some, None, refl, sym, ap, subst, ◌∙◌, arith, append_assoc}
-use Rattle.std.proofs.lemmas.Bool.{lt-ltb, le-ltb, ltb-true, eqb-true, true≢false}
+use Rattle.std.proofs.Common.{◌≡◌, ◌≢◌, ℕ, zero, suc, ◌≤◌, ◌<◌, Bool, true, false, cond, ltb, eqb, List, [], ◌∷◌, ◌++◌, Option, Some, None, refl, sym, ap, subst, ◌∙◌, arith, append_assoc}
+use Rattle.std.proofs.lemmas.Bool.{ltb-true, eqb-true}
 use Rattle.gettext.specs.declared.expression.Operator.{Operator}
-use Rattle.gettext.specs.declared.expression.Operator.TheVariants as operator
 use Rattle.gettext.specs.declared.expression.tokens.Token.{Token}
 use Rattle.gettext.specs.declared.expression.tokens.Token.TheVariants as token
 use Rattle.gettext.specs.declared.expression.grammar.Level.{Level}
 use Rattle.gettext.specs.declared.expression.grammar.Level.TheVariants as level
 use Rattle.gettext.specs.Messages.{◌>>=◌}
-use Rattle.gettext.specs.Expression.{Expression, Count, Number, Negation, Binary, Conditional}
+use Rattle.gettext.specs.Expression.{Count, Number}
 use Rattle.gettext.specs.Grammar.{rank, tighter, level_of, IsPart, name, numeral, parentheses, negation, binary, conditional, looser}
-use Rattle.gettext.specs.Parsing.{Found, Parser, parse, at_level, atom, atom_or, leaf_at, after_open, after_close, after_bang, after_question, after_colon, unary, unary_or, operator_at, more, more_at, chain, choice, choice_at, closed, negated, joined, chosen, units, products, sums, relations, equalities, conjunctions, disjunctions, IsBinary}
+use Rattle.gettext.specs.Parsing.{Found, Parser, parse, at_level, atom, atom_or, leaf_at, after_open, after_close, after_bang, after_question, after_colon, unary, unary_or, operator_at, more, more_at, chain, choice, choice_at, closed, negated, joined, chosen, units, products, sums, relations, equalities, conjunctions, disjunctions}
 
 -- ---- what is read is a part
 

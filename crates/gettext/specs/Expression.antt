@@ -1,7 +1,6 @@
 -- Plural expressions as trees, and their meaning over unsigned numbers of 64 bits, as in C
 -- (GNU gettext manual, 'Additional functions for plural forms').
-use Rattle.std.specs.Prelude.{ℕ, zero, suc, ◌+◌, ◌-◌, ◌*◌, ◌/◌, ◌%◌, ◌^◌, Bool, not, ◌&&◌, ◌||◌, Option, Some, None, ◌==◌, nat_lt, nat_le, if◌then◌else◌}
-use Rattle.std.specs.Option.{option_map}
+use Rattle.std.specs.Prelude.{ℕ, ◌+◌, ◌-◌, ◌*◌, ◌/◌, ◌%◌, ◌^◌, Bool, not, ◌&&◌, ◌||◌, Option, Some, None, ◌==◌, nat_lt, nat_le, if◌then◌else◌}
 use Rattle.gettext.specs.declared.expression.Ast.{Ast}
 use Rattle.gettext.specs.declared.expression.Ast.TheVariants.{N, Integer, Ternary', Op', Not'}
 use Rattle.gettext.specs.declared.expression.Operator.{Operator}

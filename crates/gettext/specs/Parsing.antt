@@ -1,5 +1,5 @@
 -- Reading an expression from left to right, as a function on tokens. Private contracts cite it; the grammar decides.
-use Rattle.std.specs.Prelude.{◌≡◌, ℕ, zero, suc, ◌+◌, max, List, [], ◌∷◌, Option, Some, None, Result, MatchResult, ◌⊎◌, nat_lt, ◌==◌, if◌then◌else◌}
+use Rattle.std.specs.Prelude.{◌≡◌, ℕ, zero, suc, ◌+◌, max, List, ◌∷◌, Option, Some, None, Result, MatchResult, ◌⊎◌, nat_lt, ◌==◌, if◌then◌else◌}
 use Rattle.gettext.specs.declared.error.Error.{Error}
 use Rattle.gettext.specs.declared.error.Error.TheVariants.{NoMemory, PluralParsing}
 use Rattle.gettext.specs.declared.expression.Operator.{Operator}
@@ -10,7 +10,7 @@ use Rattle.gettext.specs.declared.expression.grammar.Part.{Part}
 use Rattle.gettext.specs.declared.expression.grammar.Level.TheVariants as level
 use Rattle.gettext.specs.Messages.{◌>>=◌}
 use Rattle.gettext.specs.Expression.{tree_of, Expression, Count, Number, Negation, Binary, Conditional}
-use Rattle.gettext.specs.Grammar.{rank, tighter, level_of}
+use Rattle.gettext.specs.Grammar.{rank, level_of}
 
 -- a part, its height, and the tokens behind it
 pub record Found : Type 0 where

@@ -1,6 +1,4 @@
-use Rattle.std.proofs.Common.{◌∙◌}
 use Rattle.std.proofs.lemmas.Result.{err_from_is_err_and}
-use Rattle.gettext.specs.Tokens.{Reads}
 use Rattle.gettext.proofs.Expressions.{tokens_fail, parsed_ok, parsed_err}
 use Rattle.gettext.proofs.expression.Ast.parse.Goals as goal
 

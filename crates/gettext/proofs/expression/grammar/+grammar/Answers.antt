@@ -1,6 +1,5 @@
-use Rattle.std.proofs.Common.{◌≡◌, ◌-◌, ◌∙◌, refl, sym, ap, inl, inr, arith, Some}
+use Rattle.std.proofs.Common.{◌-◌, ◌∙◌, refl, sym, ap, inr, arith, Some}
 use Rattle.std.proofs.lemmas.Result.{err_from_is_err_and}
-use Rattle.gettext.specs.Grammar.{tighter}
 use Rattle.gettext.specs.Parsing.{parse}
 use Rattle.gettext.specs.declared.expression.grammar.Level.TheVariants as level
 use Rattle.gettext.proofs.Chains.{fails_by, parse-zero, made, passed_on, chain_fails, chain_begins, chain_ends, chain_full, chain_breaks, chain_grows, choice_fails, no_choice, choice_full, choice_breaks, no_colon, choice_ends, choice_found, leaf_found, no_bang, operand_fails, operand_found, no_open, inside_fails, no_close, inside_found}

@@ -1,4 +1,4 @@
-use Rattle.std.proofs.Common.{◌≡◌, ◌∙◌, map, refl, sym, ap, rules, tests}
+use Rattle.std.proofs.Common.{◌≡◌, map, refl, sym, ap, rules, tests}
 use Rattle.std.specs.Prelude.{nat_eq}
 use Rattle.std.specs.List.{starts_with}
 use Rattle.std.specs.Slice.Iter.{iter_rest}
