@@ -9,3 +9,4 @@ pub mod Chains
 pub mod Grammar
 pub mod GrammarComplete
 pub mod Expressions
+pub mod Pieces

@@ -1,6 +1,6 @@
 -- What a catalog of messages means, apart from any file. A text is a list of characters.
-use Rattle.std.specs.Prelude.{◌≡◌, ℕ, Bool, List, [], ◌∷◌, ◌++◌, Option, Some, None, ◌==◌, if◌then◌else◌, nat_eq}
-use Rattle.std.specs.Option.{option_or}
+use Rattle.std.specs.Prelude.{◌≡◌, ℕ, Bool, List, [], ◌∷◌, ◌++◌, length, Option, Some, None, ◌==◌, if◌then◌else◌, nat_eq}
+use Rattle.std.specs.Option.{option_or, option_map}
 use Rattle.std.specs.List.{slice_get}
 use Rattle.std.specs.Cmp.Lexicographic.{pointwise}
 
@@ -52,6 +52,15 @@ numbered c key number = do
   message ← lookup c.pairs key
   text ← slice_get message.forms number
   Some (number, text)
+
+-- how many forms the message with the key has
+abbrev pub count_of_forms : Messages → List ℕ → Option ℕ
+count_of_forms c key = option_map (λ m. length m.forms) (lookup c.pairs key)
+
+-- the text of a form, or another text where there is none
+abbrev pub text_or : Option (ℕ × List ℕ) → List ℕ → List ℕ
+text_or None other = other
+text_or (Some form) other = form.1
 
 -- the form for n of the message with the key, as its number and its text
 unfoldable pub form : Messages → List ℕ → ℕ → Option (ℕ × List ℕ)

@@ -1,5 +1,5 @@
 -- How a catalog keeps its messages: one buffer, and a table of ranges in it, whose keys ascend.
-use Rattle.std.specs.Prelude.{◌≡◌, ℕ, ◌-◌, ◌≤◌, true, List, [], ◌∷◌, Option, Some, None, if◌then◌else◌, length, take, drop, map}
+use Rattle.std.specs.Prelude.{◌≡◌, ℕ, ◌-◌, ◌≤◌, true, List, [], ◌∷◌, Option, Some, None, if◌then◌else◌, encode_utf8_all, length, take, drop, map}
 use Rattle.std.specs.Option.{option_or}
 use Rattle.std.specs.List.{list_all, AllByRecursion}
 use Rattle.std.specs.List.Sorted.{IsStrictlySortedBy}
@@ -50,3 +50,15 @@ pub record IsRowOf (buffer : List ℕ) (row : Row) : Type 0 where
 pub record IsTable (buffer : List ℕ) (rows : List Row) : Type 0 where
   pub rows_fit : AllByRecursion (IsRowOf buffer) rows
   pub keys_ascend : IsStrictlySortedBy (slice_cmp nat_cmp) (map (key_bytes buffer) rows)
+
+-- where a piece of a text stands, if there is one
+abbrev pub IsPieceSpan : List ℕ → Option (ℕ × ℕ) → Option (List ℕ) → Type 0
+IsPieceSpan text None piece = piece ≡ None
+IsPieceSpan text (Some span) piece = (span.0 ≤ span.1) × (span.1 ≤ length text) × (piece ≡ Some (take (span.1 - span.0) (drop span.0 text)))
+
+-- where the text of a form stands in the buffer, in UTF-8, if there is one
+abbrev pub IsRangeOf : List ℕ → Option (ℕ × ℕ) → Option (ℕ × List ℕ) → Type 0
+IsRangeOf buffer None None = Unit {0}
+IsRangeOf buffer (Some range) (Some form) = (range.0 ≤ range.1) × (range.1 ≤ length buffer) × (take (range.1 - range.0) (drop range.0 buffer) ≡ encode_utf8_all form.1)
+IsRangeOf buffer None (Some form) = ⊥
+IsRangeOf buffer (Some range) None = ⊥

@@ -1,11 +1,12 @@
 //! Catalogs of messages, and the look-up of a message's form.
 
-ghost use Rattle.std.specs.Prelude.{◌≡◌, ℕ, ◌⊎◌, ◌↔◌, List, [], Option, Some, None, Result, IfOk, MatchResult, IsErrAnd};
+ghost use Rattle.std.specs.Prelude.{◌≡◌, ℕ, ◌==◌, ◌⊎◌, ◌↔◌, List, [], Option, Some, None, Result, IfOk, MatchResult, IsErrAnd, if◌then◌else◌};
 ghost use Rattle.std.specs.Option.{option_map};
 ghost use Rattle.std.specs.Str.{chars};
 ghost use Rattle.gettext.specs.declared.error.Error.{Error};
 ghost use Rattle.gettext.specs.declared.error.Error.TheVariants.{NoMemory};
-ghost use Rattle.gettext.specs.Messages.{Messages, StandsFor, Default, key_of, form};
+ghost use Rattle.gettext.specs.Messages.{Messages, StandsFor, Default, key_of, numbered, form, count_of_forms, text_or};
+ghost use Rattle.gettext.specs.Table.{IsRangeOf};
 ghost use Rattle.gettext.specs.Mo.{entries, mo_fault};
 
 use crate::error::Error;
@@ -69,6 +70,96 @@ impl Catalog {
         let text = self.entries.form(context, id, number)?;
         Some(Form { number, text })
     }
+
+    /// How many forms the message with that context and id has.
+    pub fn form_count(&self, context: Option<&str>, id: &str) -> Option<usize>
+        ensures count { (c : Messages) → StandsFor self.now.entries.messages c
+            → result ≡ count_of_forms c (key_of (option_map (λ s. chars s.now) context.entry) (chars id.now)) }
+    {
+        self.entries.form_count(context, id)
+    }
+
+    /// The form with that number, counted from 0, of the message with that context and id.
+    pub fn form_text(&self, context: Option<&str>, id: &str, number: usize) -> Option<&str>
+        ensures text { (c : Messages) → StandsFor self.now.entries.messages c
+            → option_map (λ text. (number, chars text.now)) result
+            ≡ numbered c (key_of (option_map (λ s. chars s.now) context.entry) (chars id.now)) number }
+    {
+        self.entries.form(context, id, number)
+    }
+
+    /// Where that form stands in the buffer: its first byte, and the byte behind its last.
+    pub fn form_range(
+        &self,
+        context: Option<&str>,
+        id: &str,
+        number: usize,
+    ) -> Option<(usize, usize)>
+        ensures range { (c : Messages) → StandsFor self.now.entries.messages c
+            → IsRangeOf self.now.entries.buffer result (numbered c (key_of (option_map (λ s. chars s.now) context.entry) (chars id.now)) number) }
+    {
+        self.entries.form_range(context, id, number)
+    }
+
+    /// The bytes that the texts of the messages stand in.
+    pub fn buffer(&self) -> &[u8]
+        ensures { result.now ≡ self.now.entries.buffer }
+    {
+        self.entries.buffer()
+    }
+
+    /// The first form of the message with that id, or the id.
+    pub fn gettext<'a>(&'a self, msg_id: &'a str) -> &'a str
+        ensures text { (c : Messages) → StandsFor self.now.entries.messages c
+            → chars result.now ≡ text_or (numbered c (chars msg_id.now) 0) (chars msg_id.now) }
+    {
+        self.form_text(None, msg_id, 0).unwrap_or(msg_id)
+    }
+
+    /// The form for `n` of the message with that id, or the id for 1, and the plural id otherwise.
+    pub fn ngettext<'a>(&'a self, msg_id: &'a str, msg_id_plural: &'a str, n: u64) -> &'a str
+        ensures text { (c : Messages) → StandsFor self.now.entries.messages c
+            → chars result.now ≡ text_or (form c (chars msg_id.now) n) (if n == 1 then chars msg_id.now else chars msg_id_plural.now) }
+    {
+        match self.find(None, msg_id, n) {
+            Some(form) => form.text,
+            None => untranslated(msg_id, msg_id_plural, n),
+        }
+    }
+
+    /// The first form of the message with that context and id, or the id.
+    pub fn pgettext<'a>(&'a self, msg_context: &'a str, msg_id: &'a str) -> &'a str
+        ensures text { (c : Messages) → StandsFor self.now.entries.messages c
+            → chars result.now ≡ text_or (numbered c (key_of (Some (chars msg_context.now)) (chars msg_id.now)) 0) (chars msg_id.now) }
+    {
+        self.form_text(Some(msg_context), msg_id, 0)
+            .unwrap_or(msg_id)
+    }
+
+    /// The form for `n` of the message with that context and id, or the id for 1, and the plural id
+    /// otherwise.
+    pub fn npgettext<'a>(
+        &'a self,
+        msg_context: &'a str,
+        msg_id: &'a str,
+        msg_id_plural: &'a str,
+        n: u64,
+    ) -> &'a str
+        ensures text { (c : Messages) → StandsFor self.now.entries.messages c
+            → chars result.now ≡ text_or (form c (key_of (Some (chars msg_context.now)) (chars msg_id.now)) n) (if n == 1 then chars msg_id.now else chars msg_id_plural.now) }
+    {
+        match self.find(Some(msg_context), msg_id, n) {
+            Some(form) => form.text,
+            None => untranslated(msg_id, msg_id_plural, n),
+        }
+    }
+}
+
+/// What stands for a message that isn't there.
+fn untranslated<'a>(msg_id: &'a str, msg_id_plural: &'a str, n: u64) -> &'a str
+    ensures { chars result.now ≡ (if n == 1 then chars msg_id.now else chars msg_id_plural.now) }
+{
+    if n == 1 { msg_id } else { msg_id_plural }
 }
 
 /// A file has no fault exactly where it means something, and then it means one thing.

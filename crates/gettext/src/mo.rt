@@ -1,16 +1,16 @@
 //! Reading the bytes of an MO file (GNU gettext manual, section 10.3).
 
 ghost use Rattle.std.specs.Prelude.{◌≡◌, ℕ, ◌+◌, ◌≤◌, ◌<◌, ◌^◌, length, MatchResult, IfOk, IfErr, Some, None};
-ghost use Rattle.std.specs.List.{position_or_len, list_all};
+ghost use Rattle.std.specs.List.{list_all};
 ghost use Rattle.std.specs.Str.{is_utf8};
 ghost use Rattle.std.specs.BTreeMap.{values};
 ghost use Rattle.gettext.specs.Messages.{Messages, StandsFor};
-ghost use Rattle.gettext.specs.Mo.{number, first_failure, text_conditions, original_conditions, translation_conditions, row_conditions, rows_conditions, header_conditions, is_nul, is_plain, head_of, pieces_of, head_conditions, translations_of, mo_fault, entries};
+ghost use Rattle.gettext.specs.Mo.{number, first_failure, text_conditions, original_conditions, translation_conditions, row_conditions, rows_conditions, header_conditions, is_plain, head_of, pieces_of, head_conditions, translations_of, mo_fault, entries};
 ghost use Rattle.gettext.specs.Reading.{Gives, GivesInMemory, IsHeader, IsTextSpan, head_span, IsReadRow, rows_from, Collects};
 ghost use Rattle.gettext.specs.Table.{bytes_at, held};
 
 use crate::error::Error;
-use crate::table::{Row, Span, Table, bytes_of};
+use crate::table::{Row, Span, Table, bytes_of, nul_place};
 use std::alloc::{AllocError, Global};
 use std::collections::BTreeMap;
 use std::str;
@@ -100,15 +100,6 @@ fn key_len(original: &[u8]) -> Result<usize, Error>
         return Err(Error::DecodingError);
     }
     Ok(len)
-}
-
-/// The place of the first NUL, or the length where there is none.
-fn nul_place(text: &[u8]) -> usize
-    ensures { result ≡ position_or_len is_nul text.now }
-{
-    text.iter()
-        .position(|byte| *byte == 0)
-        .unwrap_or(text.len())
 }
 
 /// Whether a key is neither that of the metadata nor has a context.

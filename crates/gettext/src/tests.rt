@@ -172,3 +172,29 @@ fn no_expressions(rt: HostRuntime) -> Result<(), Fail> {
     assert!(rt; is_refused(alloc, high));
     Ok(())
 }
+
+#[test]
+fn lookups(rt: HostRuntime) -> Result<(), Fail> {
+    let alloc = rt.alloc();
+    let catalog = Catalog::parse_bytes(alloc, C1)?;
+    assert_eq!(rt; catalog.form_range(None, "Hi", 0), Some((47, 52)));
+    assert_eq!(rt; catalog.form_range(None, "Hi", 1), None);
+    assert!(rt; catalog.buffer() == C1);
+    let catalog = Catalog::parse_bytes(alloc, TWICE)?;
+    assert_eq!(rt; catalog.form_count(None, "Text"), Some(2));
+    assert_eq!(rt; catalog.form_count(None, "Texts"), None);
+    assert_eq!(rt;
+        catalog.form_text(None, "Text", 1).ok_or("no form")?,
+        "Tekstai"
+    );
+    assert_eq!(rt; catalog.gettext("Text"), "Tekstas");
+    assert_eq!(rt; catalog.gettext("Image"), "Image");
+    assert_eq!(rt; catalog.ngettext("Text", "Texts", 1), "Tekstas");
+    assert_eq!(rt; catalog.ngettext("Text", "Texts", 0), "Tekstai");
+    let empty = Catalog::empty(alloc);
+    assert_eq!(rt; empty.ngettext("Text", "Texts", 1), "Text");
+    assert_eq!(rt; empty.ngettext("Text", "Texts", 2), "Texts");
+    assert_eq!(rt; empty.pgettext("unit test", "Text"), "Text");
+    assert_eq!(rt; empty.npgettext("unit test", "Text", "Texts", 0), "Texts");
+    Ok(())
+}

@@ -1,0 +1,5 @@
+use Rattle.gettext.proofs.Lookups.{range-stands}
+use Rattle.gettext.proofs.catalog.Catalog.form_range.Goals as goal
+
+pub returns : goal.returns
+returns c = record { range = λ m s. range-stands c.args.self.now.entries.messages m c.args.self.now.entries.buffer _ c.args.number c.form_range.result s c.form_range.ensures }
