@@ -1,6 +1,6 @@
 -- Conditions in order, and what the readers of a file say of them.
 use Rattle.std.proofs.Common.{◌≡◌, ℕ, suc, ◌+◌, ◌≤◌, ◌<◌, Bool, true, false, cond, not, ◌||◌, ltb, List, [], ◌∷◌, ◌++◌, length, get_or, take, drop, Option, Some, None, Result, Ok, Err, refl, sym, ◌∙◌, arith, lit<, inl, inr}
-use Rattle.std.specs.Int.{w32, from_le_bytes}
+use Rattle.std.specs.Int.{w32, from_le_bytes, from_be_bytes}
 use Rattle.std.specs.Option.{unwrap_or}
 use Rattle.std.specs.List.{list_any, position_or_len}
 use Rattle.std.specs.Result.{MatchResult, is_ok}
@@ -11,7 +11,7 @@ use Rattle.std.proofs.lemmas.List.Folds.{length-prefix_len}
 use Rattle.std.proofs.lemmas.List.{get_or-take, get_or-drop, length-take}
 use Rattle.gettext.specs.declared.error.Error.{Error}
 use Rattle.gettext.specs.declared.error.Error.TheVariants.{DecodingError, Eof, NotBuilt}
-use Rattle.gettext.specs.Mo.{Condition, first_failure, number, is_nul, is_plain, head_of, head_conditions}
+use Rattle.gettext.specs.Mo.{Condition, first_failure, is_big_endian, number, is_nul, is_plain, head_of, head_conditions}
 
 still_fails : (b : Bool) (x y : Option Error) (d e : Error) → (x ≡ Some e → y ≡ Some e) → cond b x (Some d) ≡ Some e → cond b y (Some d) ≡ Some e
 still_fails true x y d e f h = f h
@@ -48,11 +48,19 @@ parts_pass (c ∷ cs) ys h =
 pub ruleset by_parts = (failed_first, passed_first)
 
 -- a number, read byte by byte
-pub number_read : (b : List ℕ) (at : ℕ) → number b at ≡ from_le_bytes w32 (get_or b at 0 ∷ get_or b (at + 1) 0 ∷ get_or b (at + 2) 0 ∷ get_or b (at + 3) 0 ∷ [])
-unfolding number
-number_read b at =
-    let place : (i : ℕ) → i < 4 → get_or (take 4 (drop at b)) i 0 ≡ get_or b (at + i) 0 = λ i h. get_or-take 4 (drop at b) i 0 h ∙ get_or-drop at b i 0 in
-    grind (arith, place 0 (lit< tt), place 1 (lit< tt), place 2 (lit< tt), place 3 (lit< tt))
+module _ (b : List ℕ) (at : ℕ) where
+  place : (i : ℕ) → i < 4 → get_or (take 4 (drop at b)) i 0 ≡ get_or b (at + i) 0
+  place i h = get_or-take 4 (drop at b) i 0 h ∙ get_or-drop at b i 0
+
+  pub little_read : (big : Bool) → big ≡ is_big_endian b → big ≡ false → from_le_bytes w32 (get_or b at 0 ∷ get_or b (at + 1) 0 ∷ get_or b (at + 2) 0 ∷ get_or b (at + 3) 0 ∷ []) ≡ number b at
+  unfolding number
+  little_read big e f = rw (← e, f) (grind (arith, place 0 (lit< tt), place 1 (lit< tt), place 2 (lit< tt), place 3 (lit< tt)))
+
+  pub big_read : (big : Bool) → big ≡ is_big_endian b → big ≡ true → from_be_bytes w32 (get_or b at 0 ∷ get_or b (at + 1) 0 ∷ get_or b (at + 2) 0 ∷ get_or b (at + 3) 0 ∷ []) ≡ number b at
+  unfolding number
+  big_read big e f = rw (← e, f) (grind (arith, place 0 (lit< tt), place 1 (lit< tt), place 2 (lit< tt), place 3 (lit< tt)))
+
+pub ruleset numbers_read = (little_read, big_read)
 
 -- what `from_utf8` answers
 pub is_ok-from_utf8 : {X Y : Type 0} (bytes : List ℕ) (r : Result X Y) (A : X → Type 0) (B : Y → Type 0) → MatchResult r (λ x. A x × IsUtf8 bytes) (λ e. ¬ (IsUtf8 bytes) × B e) → is_ok r ≡ is_utf8 bytes

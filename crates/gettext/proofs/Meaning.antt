@@ -8,7 +8,7 @@ use Rattle.std.proofs.lemmas.List.{length-map}
 use Rattle.std.proofs.lemmas.Slice.Eq.{bytes_eq-Decides}
 use Rattle.std.proofs.lemmas.Str.{IsUtf8-from_is_utf8, is_utf8-from_IsUtf8, scalars-chars, encodes-chars, chars_from_encodes}
 use Rattle.gettext.specs.declared.error.Error.{Error}
-use Rattle.gettext.specs.declared.error.Error.TheVariants.{BadMagic, Eof, NoMemory, NotBuilt}
+use Rattle.gettext.specs.declared.error.Error.TheVariants.{BadMagic, Eof, NoMemory}
 use Rattle.gettext.specs.declared.table.Row.{Row}
 use Rattle.gettext.specs.Messages.{Message, Messages, Default, same_text, StandsFor}
 use Rattle.gettext.specs.Mo.{Condition, first_failure, IsText, AreTexts, IsRow, AreRows, entries, head_of, pieces_of, original_of, translation_of, count_of, originals_of, translations_of, little_endian, big_endian, header_conditions, row_conditions, rows_conditions, mo_fault}
@@ -100,37 +100,43 @@ length-rows_from b i (suc n) = ap suc (length-rows_from b (suc i) n)
 
 pub record HeaderHolds (b : List ℕ) : Type 0 where
   pub header : 28 ≤ length b
-  pub magic : take 4 b ≡ little_endian
+  pub magic : (take 4 b ≡ little_endian) ⊎ (take 4 b ≡ big_endian)
   pub originals : originals_of b ≤ length b
   pub translations : translations_of b ≤ length b
 
-or_true : (a b : Bool) → a ≡ true → (a || b) ≡ true
-or_true a b e = rw e refl
+magic_test : (m : List ℕ) → (m ≡ little_endian) ⊎ (m ≡ big_endian) → (same_text m little_endian || same_text m big_endian) ≡ true
+magic_test m (inl e) = rw ((bytes_eq-Decides m little_endian).1 e) refl
+magic_test m (inr e) = or_right (same_text m little_endian) (same_text m big_endian) ((bytes_eq-Decides m big_endian).1 e) where
+  or_right : (a b : Bool) → b ≡ true → (a || b) ≡ true
+  or_right true b e = refl
+  or_right false b e = e
+
+magic_is : (m : List ℕ) → (same_text m little_endian || same_text m big_endian) ≡ true → (m ≡ little_endian) ⊎ (m ≡ big_endian)
+magic_is m e = by_test (same_text m little_endian) refl e where
+  by_test : (a : Bool) → same_text m little_endian ≡ a → (a || same_text m big_endian) ≡ true → (m ≡ little_endian) ⊎ (m ≡ big_endian)
+  by_test true h e = inl ((bytes_eq-Decides m little_endian).0 h)
+  by_test false h e = inr ((bytes_eq-Decides m big_endian).0 e)
 
 pub header_passes : (b : List ℕ) → HeaderHolds b → first_failure (header_conditions b) ≡ None
 unfolding header_conditions
-header_passes b h =
-    let same : same_text (take 4 b) little_endian ≡ true = (bytes_eq-Decides (take 4 b) little_endian).1 h.magic in
-    rw (le-leb 28 (length b) h.header, same, le-leb _ _ h.originals, le-leb _ _ h.translations) refl
+header_passes b h = rw (le-leb 28 (length b) h.header, magic_test (take 4 b) h.magic, le-leb _ _ h.originals, le-leb _ _ h.translations) refl
 
 pub header_holds : (b : List ℕ) → first_failure (header_conditions b) ≡ None → HeaderHolds b
 unfolding header_conditions
 header_holds b h =
     let long : Condition = (nat_le 28 (length b), Eof) in
     let magic : Condition = (same_text (take 4 b) little_endian || same_text (take 4 b) big_endian, BadMagic) in
-    let little : Condition = (same_text (take 4 b) little_endian, NotBuilt) in
     let originals : Condition = (nat_le (originals_of b) (length b), Eof) in
     let translations : Condition = (nat_le (translations_of b) (length b), Eof) in
-    let first = head_passes long (magic ∷ little ∷ originals ∷ translations ∷ []) h in
-    let second = head_passes magic (little ∷ originals ∷ translations ∷ []) first.1 in
-    let third = head_passes little (originals ∷ translations ∷ []) second.1 in
-    let fourth = head_passes originals (translations ∷ []) third.1 in
-    let fifth = head_passes translations [] fourth.1 in
+    let first = head_passes long (magic ∷ originals ∷ translations ∷ []) h in
+    let second = head_passes magic (originals ∷ translations ∷ []) first.1 in
+    let third = head_passes originals (translations ∷ []) second.1 in
+    let fourth = head_passes translations [] third.1 in
     record {
       header = leb-true _ _ first.0;
-      magic = (bytes_eq-Decides (take 4 b) little_endian).0 third.0;
-      originals = leb-true _ _ fourth.0;
-      translations = leb-true _ _ fifth.0;
+      magic = magic_is (take 4 b) second.0;
+      originals = leb-true _ _ third.0;
+      translations = leb-true _ _ fourth.0;
     }
 
 -- ---- the file

@@ -1,7 +1,7 @@
 -- MO files (GNU gettext manual, section 10.3): what stands where in the bytes of a file, and what it means.
--- Numbers have four bytes, the least significant first.
-use Rattle.std.specs.Prelude.{◌≡◌, ℕ, zero, suc, ◌+◌, ◌*◌, ◌≤◌, Bool, true, not, ◌&&◌, ◌||◌, List, [], ◌∷◌, ◌++◌, length, take, drop, Option, Some, None, nat_le, ◌==◌, if◌then◌else◌, encode_utf8_all}
-use Rattle.std.specs.Int.{w32, from_le_bytes}
+-- Numbers have four bytes, in the order that the magic number names.
+use Rattle.std.specs.Prelude.{◌≡◌, ◌⊎◌, ℕ, zero, suc, ◌+◌, ◌*◌, ◌≤◌, Bool, true, not, ◌&&◌, ◌||◌, List, [], ◌∷◌, ◌++◌, length, take, drop, Option, Some, None, nat_le, ◌==◌, if◌then◌else◌, encode_utf8_all}
+use Rattle.std.specs.Int.{w32, from_le_bytes, from_be_bytes}
 use Rattle.std.specs.List.{before_first, slice_split, list_any, list_all}
 use Rattle.std.specs.Str.{is_utf8, all_scalars}
 use Rattle.gettext.specs.declared.error.Error.{Error}
@@ -16,14 +16,18 @@ is_nul byte = byte == 0
 abbrev pub is_separator : ℕ → Bool
 is_separator byte = byte == 4
 
-unfoldable pub number : List ℕ → ℕ → ℕ
-number b at = from_le_bytes w32 (take 4 (drop at b))
-
 abbrev pub little_endian : List ℕ
 little_endian = 0xde ∷ 0x12 ∷ 0x04 ∷ 0x95 ∷ []
 
 abbrev pub big_endian : List ℕ
 big_endian = 0x95 ∷ 0x04 ∷ 0x12 ∷ 0xde ∷ []
+
+-- whether a file's numbers have the most significant byte first, as its magic number names it
+abbrev pub is_big_endian : List ℕ → Bool
+is_big_endian b = same_text (take 4 b) big_endian
+
+unfoldable pub number : List ℕ → ℕ → ℕ
+number b at = if is_big_endian b then from_be_bytes w32 (take 4 (drop at b)) else from_le_bytes w32 (take 4 (drop at b))
 
 -- how many strings there are, and where the table of the originals and that of the translations start
 abbrev pub count_of : List ℕ → ℕ
@@ -106,7 +110,7 @@ AreRows b i (m ∷ ms) = IsRow b i m × AreRows b (suc i) ms
 -- the file means c
 pub record entries (b : List ℕ) (c : Messages) : Type 0 where
   pub header : 28 ≤ length b
-  pub magic : take 4 b ≡ little_endian
+  pub magic : (take 4 b ≡ little_endian) ⊎ (take 4 b ≡ big_endian)
   pub originals : originals_of b ≤ length b
   pub translations : translations_of b ≤ length b
   pub count : length c.pairs ≡ count_of b
@@ -128,7 +132,6 @@ unfoldable pub header_conditions : List ℕ → List Condition
 header_conditions b =
     (nat_le 28 (length b), Eof)
     ∷ (same_text (take 4 b) little_endian || same_text (take 4 b) big_endian, BadMagic)
-    ∷ (same_text (take 4 b) little_endian, NotBuilt)
     ∷ (nat_le (originals_of b) (length b), Eof)
     ∷ (nat_le (translations_of b) (length b), Eof)
     ∷ []

@@ -11,7 +11,7 @@ use Rattle.gettext.specs.declared.error.Error.TheVariants.{NoMemory}
 use Rattle.gettext.specs.declared.mo.Header.{Header}
 use Rattle.gettext.specs.declared.table.Span.{Span}
 use Rattle.gettext.specs.declared.table.Row.{Row}
-use Rattle.gettext.specs.Mo.{count_of, originals_of, translations_of, text_offset, text_length, closed_text_of, text_of, original_of, head_of}
+use Rattle.gettext.specs.Mo.{is_big_endian, count_of, originals_of, translations_of, text_offset, text_length, closed_text_of, text_of, original_of, head_of}
 use Rattle.gettext.specs.Table.{key_bytes, row_for, IsRowOf}
 
 -- Ok gives P where there is no fault, and an error is the fault.
@@ -26,6 +26,7 @@ pub record IsHeader (b : List ℕ) (header : Header) : Type 0 where
   pub count : header.count ≡ count_of b
   pub originals : header.originals ≡ originals_of b
   pub translations : header.translations ≡ translations_of b
+  pub order : header.big_endian ≡ is_big_endian b
 
 unfoldable pub text_span : List ℕ → ℕ → ℕ → Span
 text_span b table i = record { start = text_offset b table i; end = text_offset b table i + text_length b table i }

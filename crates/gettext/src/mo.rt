@@ -5,7 +5,7 @@ ghost use Rattle.std.specs.List.{list_all};
 ghost use Rattle.std.specs.Str.{is_utf8};
 ghost use Rattle.std.specs.BTreeMap.{values};
 ghost use Rattle.gettext.specs.Messages.{Messages, StandsFor};
-ghost use Rattle.gettext.specs.Mo.{number, first_failure, text_conditions, original_conditions, translation_conditions, row_conditions, rows_conditions, header_conditions, is_plain, head_of, pieces_of, head_conditions, translations_of, mo_fault, entries};
+ghost use Rattle.gettext.specs.Mo.{is_big_endian, number, first_failure, text_conditions, original_conditions, translation_conditions, row_conditions, rows_conditions, header_conditions, is_plain, head_of, pieces_of, head_conditions, translations_of, mo_fault, entries};
 ghost use Rattle.gettext.specs.Reading.{Gives, GivesInMemory, IsHeader, IsTextSpan, head_span, IsReadRow, rows_from, Collects};
 ghost use Rattle.gettext.specs.Table.{bytes_at, held};
 
@@ -21,20 +21,27 @@ const LITTLE_ENDIAN: &[u8] = &[0xde, 0x12, 0x04, 0x95];
 /// The magic number of a file whose numbers have the most significant byte first.
 const BIG_ENDIAN: &[u8] = &[0x95, 0x04, 0x12, 0xde];
 
-/// How many strings a file has, and where its two tables start.
+/// How many strings a file has, where its two tables start, and how its numbers are written.
 #[derive(Clone, Copy)]
 struct Header {
     count: u32,
     originals: u32,
     translations: u32,
+    big_endian: bool,
 }
 
-#[tactic(auto, using(crate::proofs::Conditions::number_read))]
-fn number_at(bytes: &[u8], at: usize) -> u32
-    requires { at + 4 ≤ length bytes.now }
+#[tactic(auto, using(crate::proofs::Conditions::numbers_read))]
+fn number_at(bytes: &[u8], big_endian: bool, at: usize) -> u32
+    requires inside { at + 4 ≤ length bytes.now }
+    requires order { big_endian ≡ is_big_endian bytes.now }
     ensures { result ≡ number bytes.now at }
 {
-    u32::from_le_bytes([bytes[at], bytes[at + 1], bytes[at + 2], bytes[at + 3]])
+    let number = [bytes[at], bytes[at + 1], bytes[at + 2], bytes[at + 3]];
+    if big_endian {
+        u32::from_be_bytes(number)
+    } else {
+        u32::from_le_bytes(number)
+    }
 }
 
 #[tactic(auto, unfolding(crate::specs::Mo::header_conditions))]
@@ -45,16 +52,15 @@ fn header_of(bytes: &[u8]) -> Result<Header, Error>
         return Err(Error::Eof);
     }
     let magic = &bytes[..4];
-    if magic == BIG_ENDIAN {
-        return Err(Error::NotBuilt);
-    }
-    if magic != LITTLE_ENDIAN {
+    let big_endian = magic == BIG_ENDIAN;
+    if magic != LITTLE_ENDIAN && !big_endian {
         return Err(Error::BadMagic);
     }
     let header = Header {
-        count: number_at(bytes, 8),
-        originals: number_at(bytes, 12),
-        translations: number_at(bytes, 16),
+        count: number_at(bytes, big_endian, 8),
+        originals: number_at(bytes, big_endian, 12),
+        translations: number_at(bytes, big_endian, 16),
+        big_endian,
     };
     if bytes.len() < header.originals as usize {
         return Err(Error::Eof);
@@ -67,15 +73,16 @@ fn header_of(bytes: &[u8]) -> Result<Header, Error>
 
 /// Where the text of a table's row stands. One closing byte stands behind it.
 #[tactic(auto, unfolding(crate::specs::Mo::text_conditions, crate::specs::Reading::text_span))]
-fn text_at(bytes: &[u8], table: u32, index: u32) -> Result<Span, Error>
+fn text_at(bytes: &[u8], big_endian: bool, table: u32, index: u32) -> Result<Span, Error>
+    requires { big_endian ≡ is_big_endian bytes.now }
     ensures { Gives (IsTextSpan bytes.now table index) result (first_failure (text_conditions bytes.now table index)) }
 {
     let row = table as usize + 8 * index as usize;
     if bytes.len() < row + 8 {
         return Err(Error::Eof);
     }
-    let length = number_at(bytes, row) as usize;
-    let start = number_at(bytes, row + 4) as usize;
+    let length = number_at(bytes, big_endian, row) as usize;
+    let start = number_at(bytes, big_endian, row + 4) as usize;
     let end = start + length;
     if bytes.len() < end + 1 {
         return Err(Error::Eof);
@@ -115,7 +122,7 @@ fn key_at(bytes: &[u8], header: Header, index: u32) -> Result<Span, Error>
     requires { IsHeader bytes.now header }
     ensures { Gives (λ span. span ≡ head_span bytes.now index) result (first_failure (original_conditions bytes.now index)) }
 {
-    let text = text_at(bytes, header.originals, index)?;
+    let text = text_at(bytes, header.big_endian, header.originals, index)?;
     let len = key_len(&bytes[text.start..text.end + 1])?;
     Ok(Span {
         start: text.start,
@@ -129,7 +136,7 @@ fn forms_at(bytes: &[u8], header: Header, index: u32) -> Result<Span, Error>
     requires { IsHeader bytes.now header }
     ensures { Gives (IsTextSpan bytes.now (translations_of bytes.now) index) result (first_failure (translation_conditions bytes.now index)) }
 {
-    let text = text_at(bytes, header.translations, index)?;
+    let text = text_at(bytes, header.big_endian, header.translations, index)?;
     if !are_texts(&bytes[text.start..text.end]) {
         return Err(Error::DecodingError);
     }

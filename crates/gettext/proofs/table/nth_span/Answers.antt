@@ -1,7 +1,5 @@
-use Rattle.std.proofs.Common.{◌≡◌, ◌+◌, ◌-◌, ◌≤◌, ◌<◌, length, take, drop, ◌∙◌, sym, ap, Some, arith}
-use Rattle.std.specs.List.{position_or_len}
+use Rattle.std.proofs.Common.{◌≡◌, ◌+◌, ◌-◌, arith}
 use Rattle.std.proofs.lemmas.List.{take_rest, length-drop}
-use Rattle.gettext.specs.Mo.{is_nul}
 use Rattle.gettext.proofs.Pieces.{next_piece, no_more, this_piece}
 use Rattle.gettext.proofs.table.nth_span.Goals as goal
 

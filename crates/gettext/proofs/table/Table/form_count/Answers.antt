@@ -1,7 +1,3 @@
-use Rattle.std.proofs.Common.{◌∙◌, ap, Some, length}
-use Rattle.std.specs.Option.{option_map}
-use Rattle.std.specs.Str.{chars}
-use Rattle.gettext.specs.Messages.{key_of}
 use Rattle.gettext.specs.Table.{form_bytes}
 use Rattle.gettext.proofs.Lookups.{no_count, counted}
 use Rattle.gettext.proofs.table.Table.form_count.Goals as goal

@@ -1,4 +1,3 @@
-use Rattle.std.proofs.Common.{◌∙◌, sym, ap}
 use Rattle.gettext.specs.Table.{held, form_bytes}
 use Rattle.gettext.proofs.Lookups.{no_range, no_piece, ranged}
 use Rattle.gettext.proofs.table.Table.form_range.Goals as goal
