@@ -2,7 +2,7 @@
 use Rattle.std.proofs.Common.{◌≡◌, ℕ, suc, ◌+◌, ◌≤◌, ◌<◌, Bool, true, false, cond, not, ◌||◌, ltb, List, [], ◌∷◌, ◌++◌, length, get_or, take, drop, Option, Some, None, Result, Ok, Err, refl, sym, ◌∙◌, arith, lit<, inl, inr}
 use Rattle.std.specs.Int.{w32, from_le_bytes, from_be_bytes}
 use Rattle.std.specs.Option.{unwrap_or}
-use Rattle.std.specs.List.{list_any, position_or_len}
+use Rattle.std.specs.List.{before_first, list_any, position_or_len}
 use Rattle.std.specs.Result.{MatchResult, is_ok}
 use Rattle.std.specs.Str.{IsUtf8, is_utf8}
 use Rattle.std.proofs.lemmas.Bool.{false_from_ne_true, cases_lt, lt-ltb, le-ltb}
@@ -10,8 +10,8 @@ use Rattle.std.proofs.lemmas.Str.{IsUtf8-from_is_utf8, is_utf8-from_IsUtf8}
 use Rattle.std.proofs.lemmas.List.Folds.{length-prefix_len}
 use Rattle.std.proofs.lemmas.List.{get_or-take, get_or-drop, length-take}
 use Rattle.gettext.specs.declared.error.Error.{Error}
-use Rattle.gettext.specs.declared.error.Error.TheVariants.{DecodingError, Eof, NotBuilt}
-use Rattle.gettext.specs.Mo.{Condition, first_failure, is_big_endian, number, is_nul, is_plain, head_of, head_conditions}
+use Rattle.gettext.specs.declared.error.Error.TheVariants.{DecodingError, Eof}
+use Rattle.gettext.specs.Mo.{Condition, first_failure, is_big_endian, number, is_nul, is_separator, has_id, fault_of_no_id, head_of, head_conditions}
 
 still_fails : (b : Bool) (x y : Option Error) (d e : Error) → (x ≡ Some e → y ≡ Some e) → cond b x (Some d) ≡ Some e → cond b y (Some d) ≡ Some e
 still_fails true x y d e f h = f h
@@ -80,36 +80,40 @@ list_any_is p (x ∷ xs) = at_head (p x) (list_any p xs) (position_or_len p xs) 
   at_head false r k n e = e ∙ ltb_suc k n
 
 -- how the conditions of an original go
-pub head_failure : (o : List ℕ) → first_failure (head_conditions o)
-    ≡ cond (ltb (position_or_len is_nul o) (length o)) (cond (is_plain (take (position_or_len is_nul o) o)) (cond (is_utf8 (take (position_or_len is_nul o) o)) None (Some DecodingError)) (Some NotBuilt)) (Some Eof)
+pub head_failure : (i : ℕ) (o : List ℕ) → first_failure (head_conditions i o)
+    ≡ cond (ltb (position_or_len is_nul o) (length o)) (cond (is_utf8 (take (position_or_len is_nul o) o)) (cond (has_id (take (position_or_len is_nul o) o)) None (Some (fault_of_no_id i))) (Some DecodingError)) (Some Eof)
 unfolding head_conditions head_of
-head_failure o = rw (list_any_is is_nul o) refl
+head_failure i o = rw (list_any_is is_nul o) refl
 
-place-le-length : (o : List ℕ) → position_or_len is_nul o ≤ length o
-place-le-length o = omega (arith, length-prefix_len (λ x. not (is_nul x)) o, length-take (position_or_len is_nul o) o)
+place-le-length : (p : ℕ → Bool) (o : List ℕ) → position_or_len p o ≤ length o
+place-le-length p o = omega (arith, length-prefix_len (λ x. not (p x)) o, length-take (position_or_len p o) o)
 
-module _ (o : List ℕ) (len : ℕ) (place : len ≡ position_or_len is_nul o) where
-  pub has_no_nul : len ≡ length o → first_failure (head_conditions o) ≡ Some Eof
-  has_no_nul e = rw (head_failure o, le-ltb (position_or_len is_nul o) (length o) (omega arith)) refl
+module _ (i : ℕ) (o : List ℕ) (len : ℕ) (place : len ≡ position_or_len is_nul o) where
+  pub has_no_nul : len ≡ length o → first_failure (head_conditions i o) ≡ Some Eof
+  has_no_nul e = rw (head_failure i o, le-ltb (position_or_len is_nul o) (length o) (omega arith)) refl
 
   module _ (inside : len ≡ length o → ⊥) where
     pub is_inside : len < length o
-    is_inside = let short = place-le-length o in omega arith
+    is_inside = let short = place-le-length is_nul o in omega arith
 
-    pub is_not_plain : is_plain (take len o) ≡ false → first_failure (head_conditions o) ≡ Some NotBuilt
-    is_not_plain h = rw (head_failure o, lt-ltb (position_or_len is_nul o) (length o) (rw (← place) is_inside), ← place, h) refl
+    pub is_not_text : is_utf8 (take len o) ≡ false → first_failure (head_conditions i o) ≡ Some DecodingError
+    is_not_text h = rw (head_failure i o, lt-ltb (position_or_len is_nul o) (length o) (rw (← place) is_inside), ← place, h) refl
 
-    pub is_not_text : is_plain (take len o) ≡ true → is_utf8 (take len o) ≡ false → first_failure (head_conditions o) ≡ Some DecodingError
-    is_not_text p h = rw (head_failure o, lt-ltb (position_or_len is_nul o) (length o) (rw (← place) is_inside), ← place, p, h) refl
+    pub has_no_id : is_utf8 (take len o) ≡ true → has_id (take len o) ≡ false → first_failure (head_conditions i o) ≡ Some (fault_of_no_id i)
+    has_no_id p h = rw (head_failure i o, lt-ltb (position_or_len is_nul o) (length o) (rw (← place) is_inside), ← place, p, h) refl
 
-    pub is_key : is_plain (take len o) ≡ true → is_utf8 (take len o) ≡ true → (len ≡ length (head_of o)) × (first_failure (head_conditions o) ≡ None)
+    pub is_key : is_utf8 (take len o) ≡ true → has_id (take len o) ≡ true → (len ≡ length (head_of o)) × (first_failure (head_conditions i o) ≡ None)
     unfolding head_of
     is_key p h =
-        (place ∙ sym (length-prefix_len (λ x. not (is_nul x)) o), rw (head_failure o, lt-ltb (position_or_len is_nul o) (length o) (rw (← place) is_inside), ← place, p, h) refl)
+        (place ∙ sym (length-prefix_len (λ x. not (is_nul x)) o), rw (head_failure i o, lt-ltb (position_or_len is_nul o) (length o) (rw (← place) is_inside), ← place, p, h) refl)
 
--- the place of the first NUL, as `position` and `unwrap_or` give it
-pub first_place : (xs : List ℕ) (r : Option ℕ) (n : ℕ) → r ≡ cond (ltb (position_or_len is_nul xs) (length xs)) (Some (position_or_len is_nul xs)) None → n ≡ length xs → unwrap_or r n ≡ position_or_len is_nul xs
-first_place xs r n e f =
-    by_cases (position_or_len is_nul xs) (length xs) r n e f (place-le-length xs) where
+-- where a context may end
+pub separator-place : (o : List ℕ) → length (before_first is_separator o) ≡ position_or_len is_separator o
+separator-place o = length-prefix_len (λ x. not (is_separator x)) o
+
+-- the place of the first byte of a kind, as `position` and `unwrap_or` give it
+pub first_place : (p : ℕ → Bool) (xs : List ℕ) (r : Option ℕ) (n : ℕ) → r ≡ cond (ltb (position_or_len p xs) (length xs)) (Some (position_or_len p xs)) None → n ≡ length xs → unwrap_or r n ≡ position_or_len p xs
+first_place p xs r n e f =
+    by_cases (position_or_len p xs) (length xs) r n e f (place-le-length p xs) where
       by_cases : (k m : ℕ) (r : Option ℕ) (n : ℕ) → r ≡ cond (ltb k m) (Some k) None → n ≡ m → k ≤ m → unwrap_or r n ≡ k
       by_cases k m r n e f short = elim (cases_lt k m) [ inl lt ↦ rw (e, lt-ltb k m lt) refl | inr le ↦ rw (e, le-ltb k m le) (omega arith) ]

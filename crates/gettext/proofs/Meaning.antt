@@ -54,8 +54,8 @@ row_means b i h =
     record {
       original = h.original;
       ended = h.ended;
-      plain = h.plain;
       key = rw (key_bytes-row_of b i) (IsText-chars (head_of (original_of b i)) h.key);
+      id = h.id;
       translation = h.translation;
       forms = rw (form_bytes-row_of b i) (AreTexts-chars (pieces_of (translation_of b i)) h.forms);
     }
@@ -67,7 +67,7 @@ row_is b i m r =
     let forms = AreTexts-are (pieces_of (translation_of b i)) m.forms r.forms in
     let k : m.key ≡ chars (key_bytes b (row_of b i)) = rw (key_bytes-row_of b i) key.1 in
     let f : m.forms ≡ map chars (form_bytes b (row_of b i)) = rw (form_bytes-row_of b i) forms.1 in
-    (record { original = r.original; ended = r.ended; plain = r.plain; key = key.0; translation = r.translation; forms = forms.0 }, λ i. record { key = k i; forms = f i })
+    (record { original = r.original; ended = r.ended; key = key.0; id = r.id; translation = r.translation; forms = forms.0 }, λ i. record { key = k i; forms = f i })
 
 rows_mean : (b : List ℕ) (i n : ℕ) → first_failure (rows_conditions b i n) ≡ None → AreRows b i (map (message_at b) (rows_from b i n))
 unfolding rows_conditions rows_from

@@ -6,9 +6,9 @@ use Rattle.std.specs.Prelude.{nat_le}
 use Rattle.std.proofs.lemmas.Bool.{leb-true, le-leb}
 use Rattle.std.proofs.lemmas.List.{length-take, take-take}
 use Rattle.std.proofs.lemmas.List.Folds.{length-prefix_len}
-use Rattle.gettext.specs.declared.error.Error.TheVariants.{DecodingError, Eof, NotBuilt}
+use Rattle.gettext.specs.declared.error.Error.TheVariants.{DecodingError, Eof}
 use Rattle.gettext.specs.declared.table.Span.{Span}
-use Rattle.gettext.specs.Mo.{Condition, LiesInside, first_failure, row_place, is_nul, is_plain, head_of, head_conditions, pieces_of, originals_of, translations_of, original_of, translation_of, text_offset, text_length, text_conditions, forms_conditions, original_conditions, translation_conditions, row_conditions}
+use Rattle.gettext.specs.Mo.{Condition, LiesInside, first_failure, row_place, is_nul, has_id, fault_of_no_id, head_of, head_conditions, pieces_of, originals_of, translations_of, original_of, translation_of, text_offset, text_length, text_conditions, forms_conditions, original_conditions, translation_conditions, row_conditions}
 use Rattle.gettext.specs.Table.{key_bytes, form_bytes, IsRowOf}
 use Rattle.gettext.specs.Reading.{text_span, head_span, row_of, IsTextSpan, IsReadRow}
 use Rattle.gettext.proofs.Conditions.{passed_first, head_passes, parts_pass}
@@ -38,8 +38,8 @@ form_bytes-row_of b i =
 pub record RowHolds (b : List ℕ) (i : ℕ) : Type 0 where
   pub original : LiesInside b (originals_of b) i
   pub ended : list_any is_nul (original_of b i) ≡ true
-  pub plain : is_plain (head_of (original_of b i)) ≡ true
   pub key : is_utf8 (head_of (original_of b i)) ≡ true
+  pub id : has_id (head_of (original_of b i)) ≡ true
   pub translation : LiesInside b (translations_of b) i
   pub forms : list_all is_utf8 (pieces_of (translation_of b i)) ≡ true
 
@@ -59,21 +59,21 @@ pub row_holds : (b : List ℕ) (i : ℕ) → first_failure (row_conditions b i) 
 unfolding row_conditions original_conditions translation_conditions head_conditions forms_conditions
 row_holds b i h =
     let text : Condition = (is_utf8 (head_of (original_of b i)), DecodingError) in
-    let plain : Condition = (is_plain (head_of (original_of b i)), NotBuilt) in
+    let id : Condition = (has_id (head_of (original_of b i)), fault_of_no_id i) in
     let ended : Condition = (list_any is_nul (original_of b i), Eof) in
     let forms : Condition = (list_all is_utf8 (pieces_of (translation_of b i)), DecodingError) in
     let both = parts_pass (original_conditions b i) (translation_conditions b i) h in
-    let original = parts_pass (text_conditions b (originals_of b) i) (ended ∷ plain ∷ text ∷ []) both.0 in
+    let original = parts_pass (text_conditions b (originals_of b) i) (ended ∷ text ∷ id ∷ []) both.0 in
     let translation = parts_pass (text_conditions b (translations_of b) i) (forms ∷ []) both.1 in
-    let first = head_passes ended (plain ∷ text ∷ []) original.1 in
-    let second = head_passes plain (text ∷ []) first.1 in
-    let third = head_passes text [] second.1 in
+    let first = head_passes ended (text ∷ id ∷ []) original.1 in
+    let second = head_passes text (id ∷ []) first.1 in
+    let third = head_passes id [] second.1 in
     let fourth = head_passes forms [] translation.1 in
     record {
       original = text_holds b (originals_of b) i original.0;
       ended = first.0;
-      plain = second.0;
-      key = third.0;
+      key = second.0;
+      id = third.0;
       translation = text_holds b (translations_of b) i translation.0;
       forms = fourth.0;
     }
@@ -81,7 +81,7 @@ row_holds b i h =
 pub row_passes : (b : List ℕ) (i : ℕ) → RowHolds b i → first_failure (row_conditions b i) ≡ None
 unfolding row_conditions original_conditions translation_conditions head_conditions forms_conditions
 row_passes b i h =
-    let original : first_failure (original_conditions b i) ≡ None = passed_first (text_conditions b (originals_of b) i) _ (text_passes b (originals_of b) i h.original) ∙ rw (h.ended, h.plain, h.key) refl in
+    let original : first_failure (original_conditions b i) ≡ None = passed_first (text_conditions b (originals_of b) i) _ (text_passes b (originals_of b) i h.original) ∙ rw (h.ended, h.key, h.id) refl in
     let translation : first_failure (translation_conditions b i) ≡ None = passed_first (text_conditions b (translations_of b) i) _ (text_passes b (translations_of b) i h.translation) ∙ rw h.forms refl in
     passed_first (original_conditions b i) (translation_conditions b i) original ∙ translation
 
@@ -102,7 +102,7 @@ row_fits b i h =
 -- ---- reading
 
 pub key_read : (b : List ℕ) (i originals : ℕ) (span : Span) (len : ℕ) → originals ≡ originals_of b → IsTextSpan b originals i span → first_failure (text_conditions b originals i) ≡ None
-    → len ≡ length (head_of (take (span.end + 1 - span.start) (drop span.start b))) → first_failure (head_conditions (take (span.end + 1 - span.start) (drop span.start b))) ≡ None
+    → len ≡ length (head_of (take (span.end + 1 - span.start) (drop span.start b))) → first_failure (head_conditions i (take (span.end + 1 - span.start) (drop span.start b))) ≡ None
     → (record { start = span.start; end = span.start + len } ≡ head_span b i) × (first_failure (original_conditions b i) ≡ None)
 unfolding original_conditions head_span text_span
 key_read b i originals span len e t passed l heads =
@@ -111,7 +111,7 @@ key_read b i originals span len e t passed l heads =
     let l' = rw t'.closed at l in
     let heads' = rw t'.closed at heads in
     let start : span.start ≡ text_offset b (originals_of b) i = ap (λ (s : Span). s.start) t'.is in
-    (cc, passed_first (text_conditions b (originals_of b) i) (head_conditions (original_of b i)) passed' ∙ heads')
+    (cc, passed_first (text_conditions b (originals_of b) i) (head_conditions i (original_of b i)) passed' ∙ heads')
 
 pub row_read : (b : List ℕ) (i : ℕ) (key forms : Span) → key ≡ head_span b i → first_failure (original_conditions b i) ≡ None → IsTextSpan b (translations_of b) i forms → first_failure (translation_conditions b i) ≡ None
     → IsReadRow b i (record { key = key; forms = forms }) × (first_failure (row_conditions b i) ≡ None)

@@ -5,7 +5,7 @@ use Rattle.std.specs.Int.{w32, from_le_bytes, from_be_bytes}
 use Rattle.std.specs.List.{before_first, slice_split, list_any, list_all}
 use Rattle.std.specs.Str.{is_utf8, all_scalars}
 use Rattle.gettext.specs.declared.error.Error.{Error}
-use Rattle.gettext.specs.declared.error.Error.TheVariants.{BadMagic, DecodingError, Eof, NotBuilt}
+use Rattle.gettext.specs.declared.error.Error.TheVariants.{BadMagic, DecodingError, Eof, MisplacedMetadata, NotBuilt}
 use Rattle.gettext.specs.Messages.{Message, Messages, Default, same_text}
 
 -- ---- where things stand
@@ -67,9 +67,10 @@ translation_of b i = text_of b (translations_of b) i
 unfoldable pub head_of : List ℕ → List ℕ
 head_of original = before_first is_nul original
 
--- the head has no context, and is not the empty id of the metadata
-unfoldable pub is_plain : List ℕ → Bool
-is_plain head = not (length head == 0) && not (list_any is_separator head)
+-- A context of the id stands in the head before its first byte 4. The id is empty where the head is, or where its
+-- first byte 4 is its last byte.
+unfoldable pub has_id : List ℕ → Bool
+has_id head = not (length head == 0) && not (length (before_first is_separator head) + 1 == length head)
 
 -- the forms of a translation stand between its NULs
 unfoldable pub pieces_of : List ℕ → List (List ℕ)
@@ -93,12 +94,13 @@ pub record LiesInside (b : List ℕ) (table i : ℕ) : Type 0 where
   pub row : row_place table i + 8 ≤ length b
   pub text : text_offset b table i + text_length b table i + 1 ≤ length b
 
--- what row i of the file says is the message
+-- What row i of the file says is the message. Byte 4 is U+0004 in UTF-8, so the head says the whole key: the context,
+-- U+0004 and the id, or the id.
 pub record IsRow (b : List ℕ) (i : ℕ) (m : Message) : Type 0 where
   pub original : LiesInside b (originals_of b) i
   pub ended : list_any is_nul (original_of b i) ≡ true
-  pub plain : is_plain (head_of (original_of b i)) ≡ true
   pub key : IsText (head_of (original_of b i)) m.key
+  pub id : has_id (head_of (original_of b i)) ≡ true
   pub translation : LiesInside b (translations_of b) i
   pub forms : AreTexts (pieces_of (translation_of b i)) m.forms
 
@@ -142,18 +144,22 @@ text_conditions b table i =
     ∷ (nat_le (text_offset b table i + text_length b table i + 1) (length b), Eof)
     ∷ []
 
-unfoldable pub head_conditions : List ℕ → List Condition
-head_conditions original =
+-- An empty id is that of the metadata, which stand in row 0 and aren't read yet.
+abbrev pub fault_of_no_id : ℕ → Error
+fault_of_no_id i = if i == 0 then NotBuilt else MisplacedMetadata
+
+unfoldable pub head_conditions : ℕ → List ℕ → List Condition
+head_conditions i original =
     (list_any is_nul original, Eof)
-    ∷ (is_plain (head_of original), NotBuilt)
     ∷ (is_utf8 (head_of original), DecodingError)
+    ∷ (has_id (head_of original), fault_of_no_id i)
     ∷ []
 
 unfoldable pub forms_conditions : List ℕ → List Condition
 forms_conditions translation = (list_all is_utf8 (pieces_of translation), DecodingError) ∷ []
 
 unfoldable pub original_conditions : List ℕ → ℕ → List Condition
-original_conditions b i = text_conditions b (originals_of b) i ++ head_conditions (original_of b i)
+original_conditions b i = text_conditions b (originals_of b) i ++ head_conditions i (original_of b i)
 
 unfoldable pub translation_conditions : List ℕ → ℕ → List Condition
 translation_conditions b i = text_conditions b (translations_of b) i ++ forms_conditions (translation_of b i)

@@ -40,7 +40,7 @@ pub enum Error {
     /// Memory ran out.
     #[error("out of memory")]
     NoMemory,
-    /// The file has a part that isn't read yet: a header or a context.
+    /// The file has metadata, which aren't read yet.
     #[error("not supported yet")]
     NotBuilt,
 }

@@ -1,11 +1,11 @@
 //! Reading the bytes of an MO file (GNU gettext manual, section 10.3).
 
 ghost use Rattle.std.specs.Prelude.{◌≡◌, ℕ, ◌+◌, ◌≤◌, ◌<◌, ◌^◌, length, MatchResult, IfOk, IfErr, Some, None};
-ghost use Rattle.std.specs.List.{list_all};
+ghost use Rattle.std.specs.List.{list_all, position_or_len};
 ghost use Rattle.std.specs.Str.{is_utf8};
 ghost use Rattle.std.specs.BTreeMap.{values};
 ghost use Rattle.gettext.specs.Messages.{Messages, StandsFor};
-ghost use Rattle.gettext.specs.Mo.{is_big_endian, number, first_failure, text_conditions, original_conditions, translation_conditions, row_conditions, rows_conditions, header_conditions, is_plain, head_of, pieces_of, head_conditions, translations_of, mo_fault, entries};
+ghost use Rattle.gettext.specs.Mo.{is_big_endian, number, first_failure, text_conditions, original_conditions, translation_conditions, row_conditions, rows_conditions, header_conditions, is_separator, has_id, fault_of_no_id, head_of, pieces_of, head_conditions, translations_of, mo_fault, entries};
 ghost use Rattle.gettext.specs.Reading.{Gives, GivesInMemory, IsHeader, IsTextSpan, head_span, IsReadRow, rows_from, Collects};
 ghost use Rattle.gettext.specs.Table.{bytes_at, held};
 
@@ -91,8 +91,8 @@ fn text_at(bytes: &[u8], big_endian: bool, table: u32, index: u32) -> Result<Spa
 }
 
 /// How long the key of an original is: what stands before its first NUL.
-fn key_len(original: &[u8]) -> Result<usize, Error>
-    ensures fault { Gives (λ len. len ≡ length (head_of original.now)) result (first_failure (head_conditions original.now)) }
+fn key_len(original: &[u8], index: u32) -> Result<usize, Error>
+    ensures fault { Gives (λ len. len ≡ length (head_of original.now)) result (first_failure (head_conditions index original.now)) }
     ensures inside { IfOk result (λ len. len < length original.now) }
 {
     let len = nul_place(original);
@@ -100,21 +100,40 @@ fn key_len(original: &[u8]) -> Result<usize, Error>
         return Err(Error::Eof);
     }
     let key = &original[..len];
-    if !is_plain_key(key) {
-        return Err(Error::NotBuilt);
-    }
     if !is_text(key) {
         return Err(Error::DecodingError);
+    }
+    if !has_id(key) {
+        return Err(fault_of_no_id(index));
     }
     Ok(len)
 }
 
-/// Whether a key is neither that of the metadata nor has a context.
-#[tactic(auto, unfolding(crate::specs::Mo::is_plain))]
-fn is_plain_key(key: &[u8]) -> bool
-    ensures { result ≡ is_plain key.now }
+/// Whether a key has more than a context.
+fn has_id(key: &[u8]) -> bool
+    ensures { result ≡ has_id key.now }
 {
-    !key.is_empty() && !key.contains(&4)
+    !key.is_empty() && separator_place(key) + 1 != key.len()
+}
+
+/// The place of the first byte that ends a context, or the length where there is none.
+fn separator_place(key: &[u8]) -> usize
+    ensures value { result ≡ position_or_len is_separator key.now }
+    ensures inside { result ≤ length key.now }
+{
+    key.iter()
+        .position(|byte| *byte == 4)
+        .unwrap_or(key.len())
+}
+
+fn fault_of_no_id(index: u32) -> Error
+    ensures { result ≡ fault_of_no_id index }
+{
+    if index == 0 {
+        Error::NotBuilt
+    } else {
+        Error::MisplacedMetadata
+    }
 }
 
 #[tactic(auto, using(crate::proofs::Conditions::by_parts), unfolding(crate::specs::Mo::original_conditions, crate::specs::Reading::head_span))]
@@ -123,7 +142,7 @@ fn key_at(bytes: &[u8], header: Header, index: u32) -> Result<Span, Error>
     ensures { Gives (λ span. span ≡ head_span bytes.now index) result (first_failure (original_conditions bytes.now index)) }
 {
     let text = text_at(bytes, header.big_endian, header.originals, index)?;
-    let len = key_len(&bytes[text.start..text.end + 1])?;
+    let len = key_len(&bytes[text.start..text.end + 1], index)?;
     Ok(Span {
         start: text.start,
         end: text.start + len,

@@ -71,7 +71,6 @@ fn hostile_files(rt: HostRuntime) -> Result<(), Fail> {
     assert_eq!(rt; fault_of(alloc, TEXT_PAST_END), Some(Error::Eof));
     assert_eq!(rt; fault_of(alloc, BAD_FORM), Some(Error::DecodingError));
     assert_eq!(rt; fault_of(alloc, BAD_KEY), Some(Error::DecodingError));
-    assert_eq!(rt; fault_of(alloc, WITH_CONTEXT), Some(Error::NotBuilt));
     assert_eq!(rt; fault_of(alloc, WITH_HEADER), Some(Error::NotBuilt));
     Ok(())
 }
@@ -93,6 +92,11 @@ fn finds(rt: HostRuntime) -> Result<(), Fail> {
     assert!(rt; catalog.find(Some("menu"), "Hi", 1).is_none());
     let catalog = Catalog::parse_bytes(alloc, C1_BIG_ENDIAN)?;
     assert!(rt; found(&catalog, "Hi", 1, 0, "Salut"));
+    let catalog = Catalog::parse_bytes(alloc, WITH_CONTEXT)?;
+    assert!(rt; catalog.pgettext("menu", "Hi") == "Salut");
+    assert!(rt; catalog.pgettext("Hi", "menu") == "menu");
+    assert!(rt; catalog.gettext("Hi") == "Hi");
+    assert!(rt; found(&catalog, "menu\u{4}Hi", 1, 0, "Salut"));
     let catalog = Catalog::parse_bytes(alloc, C2)?;
     assert!(rt; found(&catalog, "Hello %s", 1, 0, "Bonjour %s"));
     let catalog = Catalog::parse_bytes(alloc, ONE_TABLE)?;

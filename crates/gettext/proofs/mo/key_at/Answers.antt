@@ -8,7 +8,7 @@ pub returns-in_err-text : goal.returns-in_err-text
 unfolding original_conditions
 returns-in_err-text c =
     let p = err_from_is_err_and c.from_residual.result c.from_residual.ensures.1 in
-    rw (p.1, p.2) (rw (← c.requires.originals) (failed_first (text_conditions c.args.bytes.now c.args.header.originals c.args.index) (head_conditions (closed_text_of c.args.bytes.now c.args.header.originals c.args.index)) _ c.in_err-text.ensures))
+    rw (p.1, p.2) (rw (← c.requires.originals) (failed_first (text_conditions c.args.bytes.now c.args.header.originals c.args.index) (head_conditions c.args.index (closed_text_of c.args.bytes.now c.args.header.originals c.args.index)) _ c.in_err-text.ensures))
 
 pub returns : goal.returns
 returns c =
