@@ -3,6 +3,8 @@ ghost use Rattle.std.specs.Prelude.{◌≡◌, ℕ, List, [], ◌∷◌, ◌++�
 ghost use Rattle.writeable.specs.Hint.{hint_sum, text_hint, byte_length, Hinted-append, Hinted-exact};
 ghost use Rattle.writeable.specs.Marks.{plain, characters-plain, characters-both, Nests-append, Nests-plain};
 
+use std::alloc::Global;
+use std::process::Abort;
 use std::test::Fail;
 use writeable::{
     LengthHint, Part, PartsWrite, Sink, SinkError, Text, TryWriteable,
@@ -78,30 +80,36 @@ impl<N: TryWriteable> TryWriteable for Greeting<N> {
         (Hinted-exact (byte_length (chars (codes "!")))) };
 }
 
+/// The greeting writes this text and has this error, with an error part from one byte to another.
+fn greets_as<T: TryWriteable<Error = GreetingError>>(
+    rt: &impl Abort,
+    alloc: Global,
+    greeting: &T,
+    text: &str,
+    wrong: &[(usize, usize)],
+    error: Option<GreetingError>,
+) -> Result<(), Fail> {
+    let (sink, found) = try_writeable_to_parts_for_test(alloc, greeting)?;
+    assert_eq!(rt; sink.as_str(), text);
+    assert_eq!(rt; found, error);
+    assert_eq!(rt; sink.spans().len(), wrong.len());
+    for (span, place) in sink.spans().iter().zip(wrong) {
+        assert_eq!(rt; (span.start, span.end), *place);
+        assert_eq!(rt; span.part, Part::ERROR);
+    }
+    assert_eq!(rt;
+        greeting.writeable_length_hint(),
+        LengthHint::exact(text.len())
+    );
+    Ok(())
+}
+
 #[test]
 fn greets(rt: HostRuntime) -> Result<(), Fail> {
-    let rows: [(Result<Text, Text>, &str, Option<GreetingError>, usize); 2] = [
-        (Ok(Text("Alice")), "Hello, Alice!", None, 0),
-        (
-            Err(Text("nobody")),
-            "Hello, nobody!",
-            Some(GreetingError::NoName),
-            1,
-        ),
-    ];
-    for (name, text, error, spans) in rows {
-        let greeting = Greeting(name);
-        let (sink, found) = try_writeable_to_parts_for_test(rt.alloc(), &greeting)?;
-        assert_eq!(rt; sink.as_str(), text);
-        assert_eq!(rt; found, error);
-        assert_eq!(rt; sink.spans().len(), spans);
-        for span in sink.spans() {
-            assert_eq!(rt; (span.start, span.end, span.part), (7, 13, Part::ERROR));
-        }
-        assert_eq!(rt;
-            greeting.writeable_length_hint(),
-            LengthHint::exact(text.len())
-        );
-    }
-    Ok(())
+    let alloc = rt.alloc();
+    let named: Greeting<Result<Text, Text>> = Greeting(Ok(Text("Alice")));
+    greets_as(&rt, alloc, &named, "Hello, Alice!", &[], None)?;
+    let nameless: Greeting<Result<Text, Text>> = Greeting(Err(Text("nobody")));
+    let error = Some(GreetingError::NoName);
+    greets_as(&rt, alloc, &nameless, "Hello, nobody!", &[(7, 13)], error)
 }

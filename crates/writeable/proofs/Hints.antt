@@ -1,5 +1,5 @@
 -- Texts that a hint bounds.
-use Rattle.std.proofs.Common.{◌≡◌, ℕ, ◌≤◌, List, [], ◌∷◌, Some, arith, refl, length, subst, IfSome}
+use Rattle.std.proofs.Common.{◌≡◌, ℕ, ◌≤◌, List, [], ◌∷◌, Some, arith, refl, subst, IfSome}
 use Rattle.std.proofs.lemmas.Str.{length-le-encodes}
 use Rattle.writeable.specs.Hint.{Hinted, byte_length}
 use Rattle.writeable.specs.declared.hint.LengthHint.{LengthHint}

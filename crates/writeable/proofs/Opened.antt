@@ -3,7 +3,7 @@ use Rattle.std.proofs.Common.{◌≡◌, ℕ, ◌<◌, ◌≤◌, List, [], ◌�
 use Rattle.std.proofs.lemmas.Bool.Decides.{nat_tests}
 use Rattle.std.proofs.lemmas.List.{reverse-append, map-append}
 use Rattle.writeable.specs.Hint.{byte_length}
-use Rattle.writeable.specs.Marks.{PartName, part_name}
+use Rattle.writeable.specs.Marks.{part_name}
 use Rattle.writeable.specs.PartsFields.{begun_of}
 use Rattle.writeable.specs.PartsSink.{Parts, Begun, parts, with_span}
 use Rattle.writeable.specs.Spans.{Span, span_of, span_unless_empty}

@@ -1,7 +1,7 @@
 -- Texts that stand at the front of other bytes.
 use Rattle.std.specs.Prelude.{nat_eq}
 use Rattle.std.specs.List.{starts_with}
-use Rattle.std.proofs.Common.{◌≡◌, ℕ, ◌+◌, ◌-◌, ◌≤◌, Bool, List, [], ◌++◌, length, take, drop, true, false, sym, ap, ◌∙◌, arith, subst, length-append, length-drop}
+use Rattle.std.proofs.Common.{◌≡◌, ℕ, ◌+◌, ◌-◌, ◌≤◌, Bool, List, ◌++◌, length, take, drop, true, false, sym, ap, ◌∙◌, arith, subst, length-append, length-drop}
 use Rattle.std.proofs.Math.Seq.{take-add, take-length, take-append_seam, drop-append_seam}
 use Rattle.std.proofs.lemmas.List.{drop-take, take-take, length-take}
 use Rattle.std.specs.Cmp.Lexicographic.{same_text, other_text}

@@ -1,9 +1,9 @@
 -- What a `PartsSink` holds once it has taken a marked text are the spans of that text.
-use Rattle.std.proofs.Common.{◌≡◌, ℕ, ◌+◌, length, arith, List, [], ◌∷◌, ◌++◌, Some, refl, sym, ap, ◌∙◌, subst, append_assoc, append-nil}
+use Rattle.std.proofs.Common.{◌≡◌, ℕ, length, arith, List, [], ◌∷◌, ◌++◌, Some, refl, sym, ap, ◌∙◌, subst, append_assoc, append-nil}
 use Rattle.writeable.specs.Hint.{byte_length}
-use Rattle.writeable.specs.Marks.{Mark, Character, Open, Close, PartName, characters, inside, Nests, characters-append, Nests-append, Nests-balanced, Nests-inside, openings, closings}
+use Rattle.writeable.specs.Marks.{Mark, Character, Open, Close, PartName, characters, inside, Nests, characters-append, Nests-append, Nests-balanced, Nests-inside}
 use Rattle.writeable.specs.PartsSink.{Parts, Begun, parts, no_parts, with_text, with_part, without_part, parts_after, TookMarks, TookMarks-open, TookMarks-text, passed_on}
-use Rattle.writeable.specs.Spans.{Span, Spans, span_unless_empty}
+use Rattle.writeable.specs.Spans.{Spans, span_unless_empty}
 
 -- the parts that are open after these marks, from the one that was opened last on
 data OpenAre : List Mark → List Begun → Type 0 where

@@ -1,6 +1,6 @@
 -- How what a sink took, and where its refusals come from, composes over several calls.
 use Rattle.std.specs.Prelude.{Ok, Err, OnErr}
-use Rattle.std.proofs.Common.{◌≡◌, ℕ, ◌≤◌, List, ◌++◌, Bool, Result, ap, ◌∙◌, sym, append_assoc, append-nil, arith, []}
+use Rattle.std.proofs.Common.{◌≡◌, ℕ, ◌≤◌, List, Bool, Result, ◌∙◌, sym, append-nil, arith, []}
 use Rattle.writeable.specs.Sink.{TookPrefix, HasCause, Rose}
 pub use Rattle.writeable.specs.Sink.{front_of_longer, front_after}
 

@@ -1,5 +1,5 @@
 -- Marked texts: characters, and the marks that open and close parts.
-use Rattle.std.specs.Prelude.{◌≡◌, ℕ, ◌+◌, List, [], ◌∷◌, ◌++◌, map, chars, Option, Some, None}
+use Rattle.std.specs.Prelude.{◌≡◌, ℕ, ◌+◌, List, [], ◌∷◌, ◌++◌, chars, Option, Some, None}
 use Rattle.std.proofs.Common.{refl, sym, ap, ◌∙◌, append_assoc, append-nil, subst, arith}
 use Rattle.writeable.specs.Sink.{TookPrefix}
 use Rattle.writeable.specs.declared.part.Part.{Part}

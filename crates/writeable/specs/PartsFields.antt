@@ -1,5 +1,5 @@
 -- The fields of a `PartsSink`, as a contract sees them. Parts are opened at the end of a list.
-use Rattle.std.specs.Prelude.{List, [], ◌∷◌, map, chars, string_bytes, reverse}
+use Rattle.std.specs.Prelude.{map, chars, string_bytes, reverse}
 use Rattle.writeable.specs.Marks.{part_name}
 use Rattle.writeable.specs.PartsSink.{Parts, Begun}
 use Rattle.writeable.specs.Spans.{span_of}

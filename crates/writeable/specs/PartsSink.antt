@@ -1,8 +1,8 @@
 -- What a contract sees of a `PartsSink`, and how a marked text changes it.
-use Rattle.std.specs.Prelude.{◌≡◌, ℕ, ◌+◌, ◌≤◌, List, [], ◌∷◌, ◌++◌, length, map, Option, Some, None, option_and_then, chars}
+use Rattle.std.specs.Prelude.{◌≡◌, ℕ, ◌+◌, List, [], ◌∷◌, ◌++◌, length, Option, Some, None, option_and_then}
 use Rattle.std.proofs.Common.{refl, sym, ap, ◌∙◌, subst, arith, append-nil, append_assoc}
 use Rattle.writeable.specs.Hint.{byte_length}
-use Rattle.writeable.specs.Marks.{Mark, Character, Open, Close, PartName, part_name, plain, characters, openings, closings}
+use Rattle.writeable.specs.Marks.{Mark, Character, Open, Close, PartName, plain, characters, openings, closings}
 use Rattle.writeable.specs.Spans.{Span, span_unless_empty}
 
 -- a part that is open, and the byte that it began at

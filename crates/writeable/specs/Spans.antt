@@ -1,7 +1,7 @@
 -- Where the parts of a marked text lie.
-use Rattle.std.specs.Prelude.{ℕ, ◌+◌, List, [], ◌∷◌, ◌++◌, nat_lt, if◌then◌else◌, chars, map}
+use Rattle.std.specs.Prelude.{ℕ, List, [], ◌∷◌, ◌++◌, nat_lt, if◌then◌else◌}
 use Rattle.writeable.specs.Hint.{byte_length}
-use Rattle.writeable.specs.Marks.{Mark, Character, Open, Close, PartName, part_name, characters, inside, Nests}
+use Rattle.writeable.specs.Marks.{Mark, Character, Open, PartName, part_name, characters, inside, Nests}
 use Rattle.writeable.specs.declared.part.PartSpan.{PartSpan}
 
 -- a part and the bytes that it spans, the last one excluded

@@ -1,10 +1,10 @@
 //! The types of std that are writeable.
 
 mod character;
-mod either;
 mod numbers;
 mod outcome;
 mod pointers;
+mod sides;
 mod signed;
 mod strings;
 mod texts;

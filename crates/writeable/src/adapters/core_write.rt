@@ -1,6 +1,6 @@
 ghost use Rattle.std.specs.Prelude.{◌≡◌, ℕ, List, [], None, OnOk, OnErr, IsOk};
 ghost use Rattle.writeable.specs.Marks.{Mark, plain, characters, characters-plain, characters-append};
-ghost use Rattle.writeable.specs.Sink.{TookPrefix};
+ghost use Rattle.writeable.specs.Sink.{HasCause};
 
 use crate::{Part, PartsWrite, Sink, SinkError};
 
@@ -44,11 +44,23 @@ impl<W: Sink> PartsWrite for CoreWriteAsPartsWrite<W> {
 
     ghost open_parts = { λ _. None };
 
-    fn open_part(&mut self, _part: Part) -> Result<(), SinkError> {
+    fn open_part(&mut self, _part: Part) -> Result<(), SinkError>
+        ensures ok { OnOk result (W.took self.old.0 [] self.new.0) }
+        ensures err { OnErr result (W.took self.old.0 [] self.new.0) }
+        ensures cause { HasCause (W.faults self.old.0) (W.faults self.new.0) (W.takes_memory self.old.0) result }
+        ensures never_fails { IsOk result }
+        ensures kept { self.new.0 ≡ self.old.0 }
+    {
         Ok(())
     }
 
-    fn close_part(&mut self) -> Result<(), SinkError> {
+    fn close_part(&mut self) -> Result<(), SinkError>
+        ensures ok { OnOk result (W.took self.old.0 [] self.new.0) }
+        ensures err { OnErr result (W.took self.old.0 [] self.new.0) }
+        ensures cause { HasCause (W.faults self.old.0) (W.faults self.new.0) (W.takes_memory self.old.0) result }
+        ensures never_fails { IsOk result }
+        ensures kept { self.new.0 ≡ self.old.0 }
+    {
         Ok(())
     }
 

@@ -1,5 +1,5 @@
 -- The whole text was compared, or a front of it that decides.
-use Rattle.std.proofs.Common.{◌≡◌, ap, sym, ◌∙◌, encode_utf8_all}
+use Rattle.std.proofs.Common.{ap, sym, ◌∙◌, encode_utf8_all}
 use Rattle.writeable.specs.Comparing.{outcome}
 use Rattle.writeable.proofs.Comparing.{written}
 use Rattle.writeable.proofs.compare.cmp_utf8.Goals as goal

@@ -1,5 +1,5 @@
 -- The text was found at the front, or differs from it.
-use Rattle.std.proofs.Common.{◌≡◌, ap, sym, ◌∙◌, take, string_bytes, encode_utf8_all}
+use Rattle.std.proofs.Common.{ap, sym, ◌∙◌, take, encode_utf8_all}
 use Rattle.std.proofs.lemmas.Str.{encodes-chars, IsUtf8-from_is_utf8}
 use Rattle.writeable.specs.Sharing.{text_so_far}
 use Rattle.writeable.proofs.Sharing.{begins_same, found_begins}

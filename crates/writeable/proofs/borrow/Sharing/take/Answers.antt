@@ -1,5 +1,5 @@
 -- A piece joins the front that was found, or the text that was copied.
-use Rattle.std.proofs.Common.{◌≡◌, ◌+◌, ◌++◌, true, false, ap, sym, ◌∙◌, arith, length, length-drop, take, drop, chars, string_bytes, rules, subst, refl}
+use Rattle.std.proofs.Common.{◌≡◌, ◌+◌, ◌++◌, true, false, ap, sym, ◌∙◌, arith, length, length-drop, take, chars, string_bytes, rules, subst}
 use Rattle.std.proofs.lemmas.Str.{chars-append, IsUtf8-from_is_utf8}
 use Rattle.writeable.specs.Sharing.{text_so_far}
 use Rattle.writeable.proofs.Sharing.{same_sharing, found_more, not_found, behind, tested}

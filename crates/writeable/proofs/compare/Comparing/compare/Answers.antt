@@ -1,7 +1,6 @@
 -- The pieces are cut to one length and compared.
-use Rattle.std.proofs.Common.{◌≡◌, min, ap, sym, ◌∙◌, length, take, drop, nat_cmp}
+use Rattle.std.proofs.Common.{min, ap, sym, ◌∙◌, length, take, drop, nat_cmp}
 use Rattle.std.specs.Cmp.Lexicographic.{slice_cmp}
-use Rattle.std.specs.declared.cmp.Ordering.TheVariants.{Equal}
 use Rattle.writeable.proofs.Comparing.{compared_cut, equal_by_test}
 use Rattle.writeable.proofs.compare.Comparing.compare.Goals as goal
 

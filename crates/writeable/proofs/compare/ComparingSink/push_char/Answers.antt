@@ -1,5 +1,5 @@
 -- A character's bytes were compared whole.
-use Rattle.std.proofs.Common.{◌≡◌, [], ◌∷◌, sym, ◌∙◌, subst, append-nil}
+use Rattle.std.proofs.Common.{[], ◌∷◌, sym, ◌∙◌, subst, append-nil}
 use Rattle.writeable.specs.Comparing.{ComparedBytes}
 use Rattle.writeable.proofs.Taking.{front_whole, on_err_always}
 use Rattle.writeable.proofs.compare.ComparingSink.push_char.Goals as goal

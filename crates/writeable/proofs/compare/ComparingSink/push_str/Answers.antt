@@ -1,5 +1,5 @@
 -- A text's bytes are its characters, encoded, and were compared whole.
-use Rattle.std.proofs.Common.{◌≡◌, sym, ◌∙◌, subst, chars}
+use Rattle.std.proofs.Common.{sym, ◌∙◌, subst, chars}
 use Rattle.std.proofs.lemmas.Str.{encodes-chars}
 use Rattle.writeable.specs.Comparing.{ComparedBytes}
 use Rattle.writeable.proofs.Taking.{front_whole, on_err_always}

@@ -1,5 +1,5 @@
 -- The text's bytes are those that are held.
-use Rattle.std.proofs.Common.{ap, sym, ◌∙◌, arith, length}
+use Rattle.std.proofs.Common.{ap, arith, length}
 use Rattle.std.proofs.lemmas.Str.{IsUtf8-from_is_utf8}
 use Rattle.writeable.specs.Hint.{byte_length}
 use Rattle.writeable.proofs.Texts.{byte_length-chars}

@@ -1,5 +1,5 @@
 -- The bytes that are held stay a text, and have room where the text has.
-use Rattle.std.proofs.Common.{◌≡◌, ◌+◌, ap, sym, ◌∙◌, arith, length, [], ◌∷◌, ◌++◌, chars, refl, ◌≤◌}
+use Rattle.std.proofs.Common.{ap, ◌∙◌, arith, ◌++◌, chars, refl}
 use Rattle.std.proofs.lemmas.Str.{IsUtf8-from_is_utf8, IsUtf8-encode, chars-append}
 use Rattle.writeable.specs.Hint.{byte_length}
 use Rattle.writeable.proofs.Texts.{byte_length-chars, byte_length-char, chars-encode, is_utf8-append}

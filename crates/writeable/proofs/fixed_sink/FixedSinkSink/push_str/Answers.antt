@@ -1,6 +1,6 @@
 -- The bytes that are held stay a text, and have room where the text has.
-use Rattle.std.proofs.Common.{◌≡◌, ◌+◌, ap, sym, ◌∙◌, arith, length, ◌++◌, chars, refl, ◌≤◌}
-use Rattle.std.proofs.lemmas.Str.{IsUtf8-from_is_utf8, is_utf8-from_IsUtf8, IsUtf8-append, chars-append}
+use Rattle.std.proofs.Common.{ap, ◌∙◌, arith, ◌++◌, chars, refl}
+use Rattle.std.proofs.lemmas.Str.{IsUtf8-from_is_utf8, chars-append}
 use Rattle.writeable.specs.Hint.{byte_length}
 use Rattle.writeable.proofs.Texts.{byte_length-chars, is_utf8-append}
 use Rattle.writeable.proofs.fixed_sink.FixedSinkSink.push_str.Goals as goal

@@ -1,5 +1,5 @@
 -- The text has as many bytes as its characters are encoded in.
-use Rattle.std.proofs.Common.{◌≡◌, ◌<◌, ◌≤◌, ◌++◌, [], ◌∷◌, ap, sym, ◌∙◌, length, string_bytes, chars, rules, arith, map}
+use Rattle.std.proofs.Common.{◌≡◌, ◌<◌, ◌++◌, [], ◌∷◌, ap, sym, ◌∙◌, length, string_bytes, chars, rules, arith, map}
 use Rattle.std.proofs.lemmas.Str.{IsUtf8-string_bytes}
 use Rattle.writeable.specs.Hint.{byte_length}
 use Rattle.writeable.specs.PartsFields.{begun_of}
