@@ -2,7 +2,7 @@ ghost use Rattle.std.specs.Prelude.{◌≡◌, ℕ, ◌≤◌, ◌↔◌, List, 
 ghost use Rattle.std.specs.Cow.{cow_str_bytes, IsBorrowedStr};
 ghost use Rattle.std.specs.Str.{chars, is_utf8};
 ghost use Rattle.std.proofs.Common.{rules};
-ghost use Rattle.writeable.specs.Sharing.{BeginsWith, Shared, Shared-nothing, Shared-both};
+ghost use Rattle.writeable.specs.Sharing.{BeginsWith, sharing, Shared, Shared-nothing, Shared-both};
 ghost use Rattle.writeable.specs.Sink.{TookPrefix, HasCause, append_held};
 
 use crate::{Sink, SinkError, Writeable};
@@ -26,13 +26,14 @@ impl<'a> Model for Sharing<'a> {
     ghost use Rattle.std.specs.Prelude.{◌≡◌, ◌≤◌, true, length, take, string_bytes};
     ghost use Rattle.std.specs.Option.{ForSome};
     ghost use Rattle.std.specs.Str.{is_utf8};
-    ghost use Rattle.writeable.specs.Sharing.{Sharing as Seen, text_so_far, BeginsWith};
+    ghost use Rattle.writeable.specs.Sharing.{Sharing as Seen, sharing, text_so_far, BeginsWith};
 
     ghost Value = { Seen };
 
-    ghost view = { λ s. record { text = text_so_far s.owned (take s.shared s.reference.now); reference = s.reference.now } };
+    ghost view = { λ s. sharing (text_so_far s.owned (take s.shared s.reference.now)) s.reference.now };
 
-    ghost invariant = { λ s. (s.shared ≤ length s.reference.now) × (is_utf8 (take s.shared s.reference.now) ≡ true)
+    ghost invariant = { λ s. (s.shared ≤ length s.reference.now)
+        × (is_utf8 (take s.shared s.reference.now) ≡ true)
         × ForSome s.owned (λ text. BeginsWith s.reference.now (string_bytes text) → ⊥) };
 }
 
@@ -59,7 +60,7 @@ fn joined(alloc: Global, front: &str, piece: &str) -> Result<String, AllocError>
 
 impl<'a> Sharing<'a> {
     fn new(alloc: Global, reference: &'a [u8]) -> Sharing<'a>
-        ensures { result ≡ record { text = []; reference = reference.now } }
+        ensures { result ≡ sharing [] reference.now }
     {
         Sharing {
             alloc,
@@ -71,7 +72,7 @@ impl<'a> Sharing<'a> {
 
     /// Takes a text.
     fn take(&mut self, piece: &str) -> Result<(), SinkError>
-        ensures ok { OnOk result (self.new ≡ record { text = self.old.text ++ chars piece.now; reference = self.old.reference }) }
+        ensures ok { OnOk result (self.new ≡ sharing (self.old.text ++ chars piece.now) self.old.reference) }
         ensures err { OnErr result (self.new ≡ self.old) }
         ensures never_faults { IsErrOf result SinkError.Fault → ⊥ }
     {
@@ -142,7 +143,8 @@ pub fn to_string_or_borrow<'a, W: Writeable>(
     reference_bytes: &'a [u8],
 ) -> Result<CowStr<'a>, AllocError>
     ensures text { IfOk result (λ s. chars (cow_str_bytes s) ≡ W.text writeable.now) }
-    ensures borrowed { IfOk result (λ s. IsBorrowedStr s ↔ BeginsWith reference_bytes.now (encode_utf8_all (W.text writeable.now))) }
+    ensures borrowed { IfOk result (λ s.
+        IsBorrowedStr s ↔ BeginsWith reference_bytes.now (encode_utf8_all (W.text writeable.now))) }
 {
     let mut sink = Sharing::new(alloc, reference_bytes);
     writeable.write_to(&mut sink).map_err(|_| AllocError)?;

@@ -4,7 +4,7 @@ ghost use Rattle.std.proofs.Common.{rules};
 ghost use Rattle.writeable.specs.Sink.{TookPrefix, HasCause, append_held};
 ghost use Rattle.writeable.specs.Marks.{Open, Close, part_name};
 ghost use Rattle.writeable.specs.Spans.{span_of};
-ghost use Rattle.writeable.specs.PartsSink.{TookText, TookMarks, TookText-nothing, TookText-both, TookMarks-both, TookMarks-held, TookMarks-open, marks_of_text, text_of_marks, no_parts, with_span, Begun};
+ghost use Rattle.writeable.specs.PartsSink.{TookText, TookMarks, TookText-nothing, TookText-both, TookMarks-both, TookMarks-held, TookMarks-open, marks_of_text, text_of_marks, no_parts, parts, with_span, Begun};
 ghost use Rattle.writeable.specs.PartsFields.{begun_of};
 
 use crate::{Part, PartSpan, PartsWrite, Sink, SinkError};
@@ -92,7 +92,8 @@ impl PartsSink {
     /// Takes the part that was opened last off the open ones.
     fn forget_last(&mut self)
         requires { 0 < length self.old.begun }
-        ensures { (last : Begun) × (self.old ≡ record { text = self.new.text; begun = last ∷ self.new.begun; spans = self.new.spans }) }
+        ensures { (last : Begun)
+            × (self.old ≡ parts self.new.text (last ∷ self.new.begun) self.new.spans) }
     {
         self.opened.pop();
     }

@@ -25,7 +25,12 @@ impl Model for ScriptSink {
 
     ghost Value = { Script };
 
-    ghost view = { λ s. record { text = chars (string_bytes s.text); failing = s.failing.items; pushes = s.pushes; faults = s.faults } };
+    ghost view = { λ s. record {
+      text = chars (string_bytes s.text);
+      failing = s.failing.items;
+      pushes = s.pushes;
+      faults = s.faults;
+    } };
 }
 
 impl ScriptSink {

@@ -24,7 +24,14 @@ impl<'a> Model for ScriptSource<'a> {
 
     ghost Value = { ReadScript };
 
-    ghost view = { λ s. record { bytes = s.rest.now; ended = s.ended; most = s.most; failing = s.failing; calls = s.calls; faults = s.faults } };
+    ghost view = { λ s. record {
+      bytes = s.rest.now;
+      ended = s.ended;
+      most = s.most;
+      failing = s.failing;
+      calls = s.calls;
+      faults = s.faults;
+    } };
 
     ghost invariant = { λ s. 1 ≤ s.most };
 }
@@ -34,7 +41,14 @@ impl ScriptSource<'_> {
     /// fails; with 0 none does.
     pub fn new(bytes: &[u8], most: usize, failing: u64) -> ScriptSource<'_>
         requires { 1 ≤ most }
-        ensures { result ≡ record { bytes = bytes.now; ended = false; most = most; failing = failing; calls = 0; faults = 0 } }
+        ensures { result ≡ record {
+          bytes = bytes.now;
+          ended = false;
+          most = most;
+          failing = failing;
+          calls = 0;
+          faults = 0;
+        } }
     {
         ScriptSource {
             rest: bytes,
@@ -65,7 +79,8 @@ impl Source for ScriptSource<'_> {
         ensures later { self.old.faults ≤ self.new.faults }
         ensures cause { OnErr result (Rose self.old.faults self.new.faults) }
         ensures scripted { IsErr result ↔ FailsNext self.old }
-        ensures gives { IfOk result (λ k. k ≡ min (length buffer.old) (min self.old.most (length self.old.bytes))) }
+        ensures gives { IfOk result (λ k.
+            k ≡ min (length buffer.old) (min self.old.most (length self.old.bytes))) }
         ensures next { self.new.calls ≡ min (self.old.calls + 1) (2 ^ 64 - 1) }
         ensures same_script { (self.new.most ≡ self.old.most) × (self.new.failing ≡ self.old.failing) }
     {

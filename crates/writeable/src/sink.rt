@@ -58,15 +58,22 @@ pub trait Sink {
 
     ghost took_both: { (a b c : Self) (s t : List ℕ) → took a s b → took b t c → took a (s ++ t) c };
 
-    ghost took_held: { (a b : Self) (t h : List ℕ) → took a t b → held a ≡ Some h → held b ≡ Some (h ++ t) };
+    ghost took_held: { (a b : Self) (t h : List ℕ)
+        → took a t b → held a ≡ Some h → held b ≡ Some (h ++ t) };
 
     ghost took_faults: { (a b : Self) (t : List ℕ) → took a t b → faults a ≤ faults b };
 
     ghost took_memory: { (a b : Self) (t : List ℕ) → took a t b → takes_memory b ≡ takes_memory a };
 
-    /// A front of a text is a front of what begins with it.
-    ghost front_longer: { (a b : Self) (s t : List ℕ) → TookPrefix took a s b → TookPrefix took a (s ++ t) b } = { λ a b s t p. front_of_longer s t p };
+    // What follows from these laws, so that callers needn't prove it. No impl writes these.
 
-    /// A text, and then a front of another.
-    ghost front_behind: { (a b c : Self) (s t : List ℕ) → took a s b → TookPrefix took b t c → TookPrefix took a (s ++ t) c } = { λ a b c s t p q. front_after s t took_both p q };
+    // A front of a text is a front of what begins with it.
+    ghost front_longer: { (a b : Self) (s t : List ℕ)
+        → TookPrefix took a s b → TookPrefix took a (s ++ t) b } = { λ a b s t p.
+            front_of_longer s t p };
+
+    // A text, and then a front of another.
+    ghost front_behind: { (a b c : Self) (s t : List ℕ)
+        → took a s b → TookPrefix took b t c → TookPrefix took a (s ++ t) c } = { λ a b c s t p q.
+            front_after s t took_both p q };
 }

@@ -58,8 +58,10 @@ pub trait TryWriteable {
     /// The text, where the value holds it in one piece, with the error if there is one.
     fn try_writeable_borrow(&self) -> Option<Result<&str, (Self::Error, &str)>>
         ensures lends { MatchOption result (lends self.now ≡ false) (λ _. lends self.now ≡ true) }
-        ensures text { IfSome result (λ r. MatchResult r (λ b. chars b.now ≡ text self.now) (λ e. chars e.1.now ≡ text self.now)) }
-        ensures error { IfSome result (λ r. MatchResult r (λ _. error self.now ≡ None) (λ e. error self.now ≡ Some e.0)) };
+        ensures text { IfSome result (λ r.
+            MatchResult r (λ b. chars b.now ≡ text self.now) (λ e. chars e.1.now ≡ text self.now)) }
+        ensures error { IfSome result (λ r.
+            MatchResult r (λ _. error self.now ≡ None) (λ e. error self.now ≡ Some e.0)) };
 
     /// The text, with the error if there is one: without a copy where the value lends it or the hint
     /// says that it is empty.
@@ -67,9 +69,13 @@ pub trait TryWriteable {
         &self,
         alloc: Global,
     ) -> Result<Result<CowStr<'_>, (Self::Error, CowStr<'_>)>, AllocError>
-        ensures text { IfOk result (λ r. MatchResult r (λ s. chars (cow_str_bytes s) ≡ text self.now) (λ e. chars (cow_str_bytes e.1) ≡ text self.now)) }
-        ensures error { IfOk result (λ r. MatchResult r (λ _. error self.now ≡ None) (λ e. error self.now ≡ Some e.0)) }
-        ensures borrowed { IfOk result (λ r. MatchResult r (λ s. IsBorrowedStr s ↔ ((lends self.now ≡ true) ⊎ ((hint self.now).1 ≡ Some 0)))
+        ensures text { IfOk result (λ r. MatchResult r
+            (λ s. chars (cow_str_bytes s) ≡ text self.now)
+            (λ e. chars (cow_str_bytes e.1) ≡ text self.now)) }
+        ensures error { IfOk result (λ r.
+            MatchResult r (λ _. error self.now ≡ None) (λ e. error self.now ≡ Some e.0)) }
+        ensures borrowed { IfOk result (λ r. MatchResult r
+            (λ s. IsBorrowedStr s ↔ ((lends self.now ≡ true) ⊎ ((hint self.now).1 ≡ Some 0)))
             (λ e. IsBorrowedStr e.1 ↔ ((lends self.now ≡ true) ⊎ ((hint self.now).1 ≡ Some 0)))) }
     {
         match self.try_writeable_borrow() {

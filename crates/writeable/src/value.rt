@@ -50,7 +50,8 @@ pub trait Writeable {
     /// The text, without a copy where the value lends it or the hint says that it is empty.
     fn write_to_string(&self, alloc: Global) -> Result<CowStr<'_>, AllocError>
         ensures text { IfOk result (λ s. chars (cow_str_bytes s) ≡ text self.now) }
-        ensures borrowed { IfOk result (λ s. IsBorrowedStr s ↔ ((lends self.now ≡ true) ⊎ ((hint self.now).1 ≡ Some 0))) }
+        ensures borrowed { IfOk result (λ s.
+            IsBorrowedStr s ↔ ((lends self.now ≡ true) ⊎ ((hint self.now).1 ≡ Some 0))) }
     {
         if let Some(text) = self.writeable_borrow() {
             return Ok(CowStr::Borrowed(text));

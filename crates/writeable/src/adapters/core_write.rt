@@ -64,7 +64,8 @@ impl<W: Sink> PartsWrite for CoreWriteAsPartsWrite<W> {
         Ok(())
     }
 
-    ghost marks_both = { λ a b c s t p q. subst (λ u. W.took a.0 u c.0) (sym (characters-append s t)) (W.took_both a.0 b.0 c.0 (characters s) (characters t) p q) };
+    ghost marks_both = { λ a b c s t p q. subst (λ u. W.took a.0 u c.0) (sym (characters-append s t))
+        (W.took_both a.0 b.0 c.0 (characters s) (characters t) p q) };
 
     ghost marks_of_text = { λ a b t p. subst (λ u. W.took a.0 u b.0) (sym (characters-plain t)) p };
 

@@ -64,9 +64,15 @@ impl<T: Writeable, E: Writeable + Copy> TryWriteable for Result<T, E> {
         }
     }
 
-    ghost marked_text = { elim [ Ok x ↦ T.marked_text x | Err e ↦ characters-inside error_part (E.marked e) ∙ E.marked_text e ] };
+    ghost marked_text = { elim [
+      | Ok x ↦ T.marked_text x
+      | Err e ↦ characters-inside error_part (E.marked e) ∙ E.marked_text e
+    ] };
 
-    ghost marked_nests = { elim [ Ok x ↦ T.marked_nests x | Err e ↦ Nests-inside error_part (E.marked e) (E.marked_nests e) ] };
+    ghost marked_nests = { elim [
+      | Ok x ↦ T.marked_nests x
+      | Err e ↦ Nests-inside error_part (E.marked e) (E.marked_nests e)
+    ] };
 
     ghost text_hinted = { elim [ Ok x ↦ T.text_hinted x | Err e ↦ E.text_hinted e ] };
 }
