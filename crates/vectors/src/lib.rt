@@ -10,6 +10,8 @@ mod greeting;
 #[cfg(test)]
 mod hints;
 #[cfg(test)]
+mod messages;
+#[cfg(test)]
 mod numbers;
 #[cfg(test)]
 mod outside;
@@ -17,5 +19,7 @@ mod outside;
 mod parts;
 #[cfg(test)]
 mod program;
+#[cfg(test)]
+mod tables;
 #[cfg(test)]
 mod texts;
