@@ -9,7 +9,7 @@ use Rattle.gettext.specs.declared.expression.tokens.Token.{Token}
 use Rattle.gettext.specs.declared.expression.grammar.Level.{Level}
 use Rattle.gettext.specs.declared.expression.grammar.Level.TheVariants as level
 use Rattle.gettext.specs.declared.expression.grammar.Part.{Part}
-use Rattle.gettext.specs.Messages.{◌>>=◌}
+use Rattle.gettext.specs.Optional.{◌>>=◌}
 use Rattle.gettext.specs.Grammar.{tighter}
 use Rattle.gettext.specs.Parsing.{Found, found_of, parse, at_level, atom_or, leaf_at, after_open, after_close, after_bang, after_question, after_colon, unary_or, operator_at, more, choice_at, closed, negated, joined, chosen, IsBinary, IsParsed}
 

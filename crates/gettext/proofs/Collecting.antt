@@ -1,5 +1,5 @@
 -- Rows that go into a map one after the other.
-use Rattle.std.proofs.Common.{◌≡◌, ℕ, zero, suc, ◌+◌, ◌-◌, ◌≤◌, ◌<◌, Bool, true, false, cond, List, [], ◌∷◌, ◌++◌, map, Option, Some, None, refl, sym, ap, ◌∙◌, arith}
+use Rattle.std.proofs.Common.{◌≡◌, ℕ, zero, suc, ◌+◌, ◌<◌, Bool, true, false, cond, List, [], ◌∷◌, ◌++◌, length, get_or, take, map, Option, Some, None, refl, sym, ap, ◌∙◌, arith}
 use Rattle.std.specs.Option.{option_or}
 use Rattle.std.specs.List.{AllByRecursion}
 use Rattle.std.specs.List.Sorted.{IsStrictlySortedBy}
@@ -15,40 +15,13 @@ use Rattle.std.proofs.lemmas.Map.Text.{btree_map_updates_str, is_eq-slice_cmp}
 use Rattle.std.proofs.lemmas.Map.Keys.{sorted_tail}
 use Rattle.std.proofs.lemmas.Cmp.{nat_list_cmp_total, tied_itself}
 use Rattle.std.proofs.lemmas.Bool.{false_from_ne_true, true≢false}
-use Rattle.gettext.specs.declared.error.Error.{Error}
 use Rattle.gettext.specs.declared.table.Row.{Row}
-use Rattle.gettext.specs.Messages.{same_text}
-use Rattle.gettext.specs.Mo.{first_failure, row_conditions, rows_conditions}
-use Rattle.gettext.specs.Table.{key_bytes, row_for, IsRowOf, IsTable}
-use Rattle.gettext.specs.Reading.{row_of, rows_from, IsReadRow, IsKeyed, Collects}
-use Rattle.gettext.proofs.Conditions.{failed_first, passed_first}
+use Rattle.gettext.specs.Texts.{same_text}
+use Rattle.gettext.specs.Table.{key_bytes, row_for, IsRowOf, Sorts}
+use Rattle.gettext.specs.Reading.{IsKeyed, Collects}
 use Rattle.gettext.proofs.Keys.{same_text-from_cmp, row_for-at}
 
--- ---- the conditions of the rows from a row on
-
-pub row_fails : (b : List ℕ) (count i : ℕ) (e : Error) → i < count → first_failure (row_conditions b i) ≡ Some e → first_failure (rows_conditions b i (count - i)) ≡ Some e
-unfolding rows_conditions
-row_fails b count i e lt h =
-    let k : count - i ≡ suc (count - (i + 1)) = omega arith in
-    rw k (failed_first (row_conditions b i) (rows_conditions b (suc i) (count - (i + 1))) e h)
-
-pub row_passes : (b : List ℕ) (count i : ℕ) → i < count → first_failure (row_conditions b i) ≡ None → first_failure (rows_conditions b i (count - i)) ≡ first_failure (rows_conditions b (i + 1) (count - (i + 1)))
-unfolding rows_conditions
-row_passes b count i lt h =
-    let k : count - i ≡ suc (count - (i + 1)) = omega arith in
-    let j : i + 1 ≡ suc i = omega arith in
-    rw (k, j) (passed_first (row_conditions b i) (rows_conditions b (suc i) (count - suc i)) h)
-
-pub rows_end : (b : List ℕ) (count i : ℕ) → count ≤ i → first_failure (rows_conditions b i (count - i)) ≡ None
-unfolding rows_conditions
-rows_end b count i le = let k : count - i ≡ 0 = omega arith in rw k refl
-
 -- ---- one row more
-
-rows_from-push : (b : List ℕ) (i n : ℕ) → rows_from b i (suc n) ≡ rows_from b i n ++ row_of b (i + n) ∷ []
-unfolding rows_from
-rows_from-push b i zero = let k : i + 0 ≡ i = omega arith in rw k refl
-rows_from-push b i (suc n) = let k : i + suc n ≡ suc i + n = omega arith in rw k (ap (λ (rs : List Row). row_of b i ∷ rs) (rows_from-push b (suc i) n))
 
 row_for-push : (b : List ℕ) (rows : List Row) (r : Row) (q : List ℕ) → row_for b (rows ++ r ∷ []) q ≡ cond (same_text (key_bytes b r) q) (Some r) (row_for b rows q)
 row_for-push b [] r q = refl
@@ -68,32 +41,23 @@ keyed-insert b (e ∷ es) k r new all = by_order (cmp k e.0) refl (keyed-insert 
   by_order Equal h rest = (record { key = sym ((bytes_eq-Decides k.now e.0.now).0 (same_text-from_cmp k.now e.0.now h)) ∙ new.key; row = new.row }, all.1)
   by_order Greater h rest = (all.0, rest)
 
--- i of the rows are read, and the map has them; the conditions of all rows go as those of the others do
-pub record IsReading (b : List ℕ) (count i : ℕ) (found : BTreeMap (Bor (List ℕ)) Row) : Type 0 where
-  pub collects : Collects b (rows_from b 0 i) found
-  pub conditions : first_failure (rows_conditions b 0 count) ≡ first_failure (rows_conditions b i (count - i))
+pub nothing_collected : (b : List ℕ) (rows : List Row) (found : BTreeMap (Bor (List ℕ)) Row) → found.entries ≡ [] → Collects b (take 0 rows) found
+unfolding IsStrictlySortedBy
+nothing_collected b rows found e = record { keyed = rw e tt; ordered = rw e tt; finds = λ q. rw e refl }
 
-pub nothing_read : (b : List ℕ) (count : ℕ) (found : BTreeMap (Bor (List ℕ)) Row) → found.entries ≡ [] → IsReading b count 0 found
-unfolding rows_from IsStrictlySortedBy
-nothing_read b count found e =
-    let k : count - 0 ≡ count = omega arith in
-    record { collects = record { keyed = rw e tt; ordered = rw e tt; finds = λ q. rw e refl }; conditions = rw k refl }
-
-pub reads_row : (b : List ℕ) (count i : ℕ) (old new : BTreeMap (Bor (List ℕ)) Row) (k : Bor (List ℕ)) (r : Row) → i < count → IsReading b count i old → IsReadRow b i r → first_failure (row_conditions b i) ≡ None → k.now ≡ key_bytes b r
-    → UpdatesBy cmp (cmp k) old new (Some r) → new.entries ≡ insert_entry cmp old.entries k r → IsStrictlySortedBy cmp (keys new) → IsReading b count (i + 1) new
-reads_row b count i old new k r lt h read passed key updates entries ordered =
-    let more : rows_from b 0 (i + 1) ≡ rows_from b 0 i ++ r ∷ [] = let j : i + 1 ≡ suc i = omega arith in let z : 0 + i ≡ i = omega arith in rw (j, rows_from-push b 0 i, z, read.is) refl in
+pub collects_row : (b : List ℕ) (rows : List Row) (i : ℕ) (old new : BTreeMap (Bor (List ℕ)) Row) (k : Bor (List ℕ)) (r : Row) → take (i + 1) rows ≡ take i rows ++ r ∷ [] → Collects b (take i rows) old → IsRowOf b r → k.now ≡ key_bytes b r
+    → UpdatesBy cmp (cmp k) old new (Some r) → new.entries ≡ insert_entry cmp old.entries k r → IsStrictlySortedBy cmp (keys new) → Collects b (take (i + 1) rows) new
+collects_row b rows i old new k r more h fits key updates entries ordered =
     record {
-      collects = record {
-        keyed = rw entries (keyed-insert b old.entries k r (record { key = key; row = read.fits }) h.collects.keyed);
-        ordered = ordered;
-        finds = λ q. rw (more, row_for-push b (rows_from b 0 i) r q, ← key) (btree_map_updates_str k.now old new (Some r) updates q ∙ ap (cond (same_text k.now q) (Some r)) (h.collects.finds q));
-      };
-      conditions = h.conditions ∙ row_passes b count i lt passed;
+      keyed = rw entries (keyed-insert b old.entries k r (record { key = key; row = fits }) h.keyed);
+      ordered = ordered;
+      finds = λ q. rw (more, row_for-push b (take i rows) r q, ← key) (btree_map_updates_str k.now old new (Some r) updates q ∙ ap (cond (same_text k.now q) (Some r)) (h.finds q));
     }
 
-pub all_read : (b : List ℕ) (count i : ℕ) (found : BTreeMap (Bor (List ℕ)) Row) → i ≡ count → IsReading b count i found → Collects b (rows_from b 0 count) found × (first_failure (rows_conditions b 0 count) ≡ None)
-all_read b count i found e h = (rw e at h.collects, h.conditions ∙ rows_end b count i (omega arith))
+pub all_at : {X : Type 0} (P : X → Type 0) (xs : List X) (i : ℕ) (d : X) → i < length xs → AllByRecursion P xs → P (get_or xs i d)
+all_at P [] i d lt all = absurd (omega (arith, lt))
+all_at P (x ∷ xs) zero d lt all = all.0
+all_at P (x ∷ xs) (suc i) d lt all = all_at P xs i d (omega (arith, lt)) all.1
 
 -- ---- the table of a map
 
@@ -131,8 +95,10 @@ finds_value b (e ∷ es) q all sorted =
           let other : same_text (key_bytes b e.1) q ≡ false = false_from_ne_true (same_text (key_bytes b e.1) q) (λ t. true≢false (sym (let same : q ≡ e.0.now = sym ((bytes_eq-Decides (key_bytes b e.1) q).0 t) ∙ sym all.0.key in is_eq-slice_cmp q e.0.now ∙ (bytes_eq-Decides q e.0.now).1 same) ∙ h)) in
           rw (other, tail) (or_nothing (lookup (is_at (λ k. slice_cmp nat_cmp q k.now)) es))
 
-pub table_of : (b : List ℕ) (rows : List Row) (found : BTreeMap (Bor (List ℕ)) Row) → Collects b rows found → IsTable b (values found)
-table_of b rows found h = record { rows_fit = rows_of_keyed b found.entries h.keyed; keys_ascend = keys_ascend b found.entries h.keyed h.ordered }
-
-pub table_finds : (b : List ℕ) (rows : List Row) (found : BTreeMap (Bor (List ℕ)) Row) → Collects b rows found → (q : List ℕ) → row_for b (values found) q ≡ row_for b rows q
-table_finds b rows found h q = finds_value b found.entries q h.keyed (keys_ascend b found.entries h.keyed h.ordered) ∙ h.finds q
+pub sorts : (b : List ℕ) (rows : List Row) (found : BTreeMap (Bor (List ℕ)) Row) → Collects b rows found → Sorts b rows (values found)
+sorts b rows found h =
+    let ascend = keys_ascend b found.entries h.keyed h.ordered in
+    record {
+      table = record { rows_fit = rows_of_keyed b found.entries h.keyed; keys_ascend = ascend };
+      finds = λ q. finds_value b found.entries q h.keyed ascend ∙ h.finds q;
+    }

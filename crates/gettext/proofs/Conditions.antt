@@ -1,17 +1,18 @@
 -- Conditions in order, and what the readers of a file say of them.
-use Rattle.std.proofs.Common.{◌≡◌, ℕ, suc, ◌+◌, ◌≤◌, ◌<◌, Bool, true, false, cond, not, ◌||◌, ltb, List, [], ◌∷◌, ◌++◌, length, get_or, take, drop, Option, Some, None, Result, Ok, Err, refl, sym, ◌∙◌, arith, lit<, inl, inr}
-use Rattle.std.specs.Int.{w32, from_le_bytes}
+use Rattle.std.proofs.Common.{◌≡◌, ℕ, suc, ◌+◌, ◌≤◌, ◌<◌, Bool, true, false, cond, not, ◌||◌, ltb, List, [], ◌∷◌, ◌++◌, length, get_or, take, drop, Option, Some, None, refl, sym, ◌∙◌, arith, lit<, inl, inr}
+use Rattle.std.specs.Int.{w32, from_le_bytes, from_be_bytes}
 use Rattle.std.specs.Option.{unwrap_or}
 use Rattle.std.specs.List.{list_any, position_or_len}
-use Rattle.std.specs.Result.{MatchResult, is_ok}
-use Rattle.std.specs.Str.{IsUtf8, is_utf8}
-use Rattle.std.proofs.lemmas.Bool.{false_from_ne_true, cases_lt, lt-ltb, le-ltb}
-use Rattle.std.proofs.lemmas.Str.{IsUtf8-from_is_utf8, is_utf8-from_IsUtf8}
+use Rattle.std.specs.Prelude.{◌==◌}
+use Rattle.std.proofs.lemmas.Bool.{cases_lt, lt-ltb, le-ltb, eq-eqb, ne_eqb, eqb-true, eqb-false}
 use Rattle.std.proofs.lemmas.List.Folds.{length-prefix_len}
 use Rattle.std.proofs.lemmas.List.{get_or-take, get_or-drop, length-take}
 use Rattle.gettext.specs.declared.error.Error.{Error}
-use Rattle.gettext.specs.declared.error.Error.TheVariants.{DecodingError, Eof, NotBuilt}
-use Rattle.gettext.specs.Mo.{Condition, first_failure, number, is_nul, is_plain, head_of, head_conditions}
+use Rattle.gettext.specs.declared.error.Error.TheVariants.{DecodingError, Eof, MisplacedMetadata}
+use Rattle.gettext.specs.declared.encoding.Encoding.{Encoding}
+use Rattle.gettext.specs.Encoding.{is_valid}
+use Rattle.gettext.specs.Messages.{has_id, ends_context}
+use Rattle.gettext.specs.Mo.{Condition, first_failure, is_big_endian, number, is_nul, head_of, head_conditions}
 
 still_fails : (b : Bool) (x y : Option Error) (d e : Error) → (x ≡ Some e → y ≡ Some e) → cond b x (Some d) ≡ Some e → cond b y (Some d) ≡ Some e
 still_fails true x y d e f h = f h
@@ -48,16 +49,19 @@ parts_pass (c ∷ cs) ys h =
 pub ruleset by_parts = (failed_first, passed_first)
 
 -- a number, read byte by byte
-pub number_read : (b : List ℕ) (at : ℕ) → number b at ≡ from_le_bytes w32 (get_or b at 0 ∷ get_or b (at + 1) 0 ∷ get_or b (at + 2) 0 ∷ get_or b (at + 3) 0 ∷ [])
-unfolding number
-number_read b at =
-    let place : (i : ℕ) → i < 4 → get_or (take 4 (drop at b)) i 0 ≡ get_or b (at + i) 0 = λ i h. get_or-take 4 (drop at b) i 0 h ∙ get_or-drop at b i 0 in
-    grind (arith, place 0 (lit< tt), place 1 (lit< tt), place 2 (lit< tt), place 3 (lit< tt))
+module _ (b : List ℕ) (at : ℕ) where
+  place : (i : ℕ) → i < 4 → get_or (take 4 (drop at b)) i 0 ≡ get_or b (at + i) 0
+  place i h = get_or-take 4 (drop at b) i 0 h ∙ get_or-drop at b i 0
 
--- what `from_utf8` answers
-pub is_ok-from_utf8 : {X Y : Type 0} (bytes : List ℕ) (r : Result X Y) (A : X → Type 0) (B : Y → Type 0) → MatchResult r (λ x. A x × IsUtf8 bytes) (λ e. ¬ (IsUtf8 bytes) × B e) → is_ok r ≡ is_utf8 bytes
-is_ok-from_utf8 bytes (Ok x) A B h = sym (is_utf8-from_IsUtf8 bytes h.1)
-is_ok-from_utf8 bytes (Err e) A B h = sym (false_from_ne_true (is_utf8 bytes) (λ e. h.0 (IsUtf8-from_is_utf8 bytes e)))
+  pub little_read : (big : Bool) → big ≡ is_big_endian b → big ≡ false → from_le_bytes w32 (get_or b at 0 ∷ get_or b (at + 1) 0 ∷ get_or b (at + 2) 0 ∷ get_or b (at + 3) 0 ∷ []) ≡ number b at
+  unfolding number
+  little_read big e f = rw (← e, f) (grind (arith, place 0 (lit< tt), place 1 (lit< tt), place 2 (lit< tt), place 3 (lit< tt)))
+
+  pub big_read : (big : Bool) → big ≡ is_big_endian b → big ≡ true → from_be_bytes w32 (get_or b at 0 ∷ get_or b (at + 1) 0 ∷ get_or b (at + 2) 0 ∷ get_or b (at + 3) 0 ∷ []) ≡ number b at
+  unfolding number
+  big_read big e f = rw (← e, f) (grind (arith, place 0 (lit< tt), place 1 (lit< tt), place 2 (lit< tt), place 3 (lit< tt)))
+
+pub ruleset numbers_read = (little_read, big_read)
 
 -- ---- an original
 
@@ -71,37 +75,58 @@ list_any_is p (x ∷ xs) = at_head (p x) (list_any p xs) (position_or_len p xs) 
   at_head true r k n e = sym (lt-ltb 0 (suc n) (omega arith))
   at_head false r k n e = e ∙ ltb_suc k n
 
--- how the conditions of an original go
-pub head_failure : (o : List ℕ) → first_failure (head_conditions o)
-    ≡ cond (ltb (position_or_len is_nul o) (length o)) (cond (is_plain (take (position_or_len is_nul o) o)) (cond (is_utf8 (take (position_or_len is_nul o) o)) None (Some DecodingError)) (Some NotBuilt)) (Some Eof)
-unfolding head_conditions head_of
-head_failure o = rw (list_any_is is_nul o) refl
+place-le-length : (p : ℕ → Bool) (o : List ℕ) → position_or_len p o ≤ length o
+place-le-length p o = omega (arith, length-prefix_len (λ x. not (p x)) o, length-take (position_or_len p o) o)
 
-place-le-length : (o : List ℕ) → position_or_len is_nul o ≤ length o
-place-le-length o = omega (arith, length-prefix_len (λ x. not (is_nul x)) o, length-take (position_or_len is_nul o) o)
+module _ (e : Encoding) (i : ℕ) (o : List ℕ) where
+  abbrev head : List ℕ
+  head = take (position_or_len is_nul o) o
 
-module _ (o : List ℕ) (len : ℕ) (place : len ≡ position_or_len is_nul o) where
-  pub has_no_nul : len ≡ length o → first_failure (head_conditions o) ≡ Some Eof
-  has_no_nul e = rw (head_failure o, le-ltb (position_or_len is_nul o) (length o) (omega arith)) refl
+  -- how the conditions of an original go
+  head_failure : first_failure (head_conditions e i o)
+      ≡ cond (ltb (position_or_len is_nul o) (length o)) (cond (is_valid e head) (cond ((i == 0) || has_id head) None (Some MisplacedMetadata)) (Some DecodingError)) (Some Eof)
+  unfolding head_conditions head_of
+  head_failure = rw (list_any_is is_nul o) refl
 
-  module _ (inside : len ≡ length o → ⊥) where
-    pub is_inside : len < length o
-    is_inside = let short = place-le-length o in omega arith
+  module _ (len : ℕ) (place : len ≡ position_or_len is_nul o) where
+    pub has_no_nul : len ≡ length o → first_failure (head_conditions e i o) ≡ Some Eof
+    has_no_nul all = rw (head_failure, le-ltb (position_or_len is_nul o) (length o) (omega arith)) refl
 
-    pub is_not_plain : is_plain (take len o) ≡ false → first_failure (head_conditions o) ≡ Some NotBuilt
-    is_not_plain h = rw (head_failure o, lt-ltb (position_or_len is_nul o) (length o) (rw (← place) is_inside), ← place, h) refl
+    module _ (inside : len ≡ length o → ⊥) where
+      pub is_inside : len < length o
+      is_inside = let short = place-le-length is_nul o in omega arith
 
-    pub is_not_text : is_plain (take len o) ≡ true → is_utf8 (take len o) ≡ false → first_failure (head_conditions o) ≡ Some DecodingError
-    is_not_text p h = rw (head_failure o, lt-ltb (position_or_len is_nul o) (length o) (rw (← place) is_inside), ← place, p, h) refl
+      pub is_not_text : is_valid e (take len o) ≡ false → first_failure (head_conditions e i o) ≡ Some DecodingError
+      is_not_text h = rw (head_failure, lt-ltb (position_or_len is_nul o) (length o) (rw (← place) is_inside), ← place, h) refl
 
-    pub is_key : is_plain (take len o) ≡ true → is_utf8 (take len o) ≡ true → (len ≡ length (head_of o)) × (first_failure (head_conditions o) ≡ None)
-    unfolding head_of
-    is_key p h =
-        (place ∙ sym (length-prefix_len (λ x. not (is_nul x)) o), rw (head_failure o, lt-ltb (position_or_len is_nul o) (length o) (rw (← place) is_inside), ← place, p, h) refl)
+      pub has_no_id : is_valid e (take len o) ≡ true → (i ≡ 0 → ⊥) → has_id (take len o) ≡ false → first_failure (head_conditions e i o) ≡ Some MisplacedMetadata
+      has_no_id p ne h = rw (head_failure, lt-ltb (position_or_len is_nul o) (length o) (rw (← place) is_inside), ← place, p, ne_eqb i 0 ne, h) refl
 
--- the place of the first NUL, as `position` and `unwrap_or` give it
-pub first_place : (xs : List ℕ) (r : Option ℕ) (n : ℕ) → r ≡ cond (ltb (position_or_len is_nul xs) (length xs)) (Some (position_or_len is_nul xs)) None → n ≡ length xs → unwrap_or r n ≡ position_or_len is_nul xs
-first_place xs r n e f =
-    by_cases (position_or_len is_nul xs) (length xs) r n e f (place-le-length xs) where
+      pub is_key : is_valid e (take len o) ≡ true → ((i == 0) || has_id (take len o)) ≡ true → (len ≡ length (head_of o)) × (first_failure (head_conditions e i o) ≡ None)
+      unfolding head_of
+      is_key p h =
+          (place ∙ sym (length-prefix_len (λ x. not (is_nul x)) o), rw (head_failure, lt-ltb (position_or_len is_nul o) (length o) (rw (← place) is_inside), ← place, p, h) refl)
+
+-- ---- an id
+
+same_test : (a b c d : ℕ) → (a ≡ b → c ≡ d) → (c ≡ d → a ≡ b) → (a == b) ≡ (c == d)
+same_test a b c d f g = by_test (a == b) refl where
+  by_test : (t : Bool) → (a == b) ≡ t → (a == b) ≡ (c == d)
+  by_test true h = h ∙ sym (eq-eqb c d (f (eqb-true a b h)))
+  by_test false h = h ∙ sym (ne_eqb c d (λ e. eqb-false a b h (g e)))
+
+-- where a context may end
+pub ends-place : (key : List ℕ) → (position_or_len (λ byte. byte == 4) key + 1 == length key) ≡ ends_context key
+ends-place [] = ne_eqb (0 + 1) 0 (λ e. omega (arith, e))
+ends-place (c ∷ cs) = by_test (c == 4) (ends-place cs) where
+  by_test : (t : Bool) → (position_or_len (λ byte. byte == 4) cs + 1 == length cs) ≡ ends_context cs
+      → (cond (not t) (1 + position_or_len (λ byte. byte == 4) cs) 0 + 1 == suc (length cs)) ≡ cond t (length cs == 0) (ends_context cs)
+  by_test true rest = same_test (0 + 1) (suc (length cs)) (length cs) 0 (λ e. omega (arith, e)) (λ e. omega (arith, e))
+  by_test false rest = same_test (1 + position_or_len (λ byte. byte == 4) cs + 1) (suc (length cs)) (position_or_len (λ byte. byte == 4) cs + 1) (length cs) (λ e. omega (arith, e)) (λ e. omega (arith, e)) ∙ rest
+
+-- the place of the first byte of a kind, as `position` and `unwrap_or` give it
+pub first_place : (p : ℕ → Bool) (xs : List ℕ) (r : Option ℕ) (n : ℕ) → r ≡ cond (ltb (position_or_len p xs) (length xs)) (Some (position_or_len p xs)) None → n ≡ length xs → unwrap_or r n ≡ position_or_len p xs
+first_place p xs r n e f =
+    by_cases (position_or_len p xs) (length xs) r n e f (place-le-length p xs) where
       by_cases : (k m : ℕ) (r : Option ℕ) (n : ℕ) → r ≡ cond (ltb k m) (Some k) None → n ≡ m → k ≤ m → unwrap_or r n ≡ k
       by_cases k m r n e f short = elim (cases_lt k m) [ inl lt ↦ rw (e, lt-ltb k m lt) refl | inr le ↦ rw (e, le-ltb k m le) (omega arith) ]

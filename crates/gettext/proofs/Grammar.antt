@@ -6,7 +6,7 @@ use Rattle.gettext.specs.declared.expression.tokens.Token.{Token}
 use Rattle.gettext.specs.declared.expression.tokens.Token.TheVariants as token
 use Rattle.gettext.specs.declared.expression.grammar.Level.{Level}
 use Rattle.gettext.specs.declared.expression.grammar.Level.TheVariants as level
-use Rattle.gettext.specs.Messages.{◌>>=◌}
+use Rattle.gettext.specs.Optional.{◌>>=◌}
 use Rattle.gettext.specs.Expression.{Count, Number}
 use Rattle.gettext.specs.Grammar.{rank, tighter, level_of, IsPart, name, numeral, parentheses, negation, binary, conditional, looser}
 use Rattle.gettext.specs.Parsing.{Found, Parser, parse, at_level, atom, atom_or, leaf_at, after_open, after_close, after_bang, after_question, after_colon, unary, unary_or, operator_at, more, more_at, chain, choice, choice_at, closed, negated, joined, chosen, units, products, sums, relations, equalities, conjunctions, disjunctions}

@@ -7,7 +7,7 @@ use Rattle.gettext.specs.declared.expression.tokens.Token.{Token}
 use Rattle.gettext.specs.declared.expression.tokens.Token.TheVariants as token
 use Rattle.gettext.specs.declared.expression.grammar.Level.{Level}
 use Rattle.gettext.specs.declared.expression.grammar.Level.TheVariants as level
-use Rattle.gettext.specs.Messages.{◌>>=◌}
+use Rattle.gettext.specs.Optional.{◌>>=◌}
 use Rattle.gettext.specs.Expression.{Expression, Binary}
 use Rattle.gettext.specs.Grammar.{rank, tighter, level_of, IsPart, name, numeral, parentheses, negation, binary, conditional, looser}
 use Rattle.gettext.specs.Parsing.{Found, Parser, parse, at_level, atom, after_close, after_bang, after_question, unary, operator_at, more, chain, choice, closed, negated, units, products, sums, relations, equalities, conjunctions, disjunctions}

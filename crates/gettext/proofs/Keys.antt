@@ -13,7 +13,7 @@ use Rattle.std.proofs.lemmas.Map.Text.{is_eq-slice_cmp}
 use Rattle.std.proofs.lemmas.List.{get_or-map, length-map, get_or_default, take_min, drop_min}
 use Rattle.std.proofs.lemmas.Option.{slice_get-get_or}
 use Rattle.gettext.specs.declared.table.Row.{Row}
-use Rattle.gettext.specs.Messages.{same_text}
+use Rattle.gettext.specs.Texts.{same_text}
 use Rattle.gettext.specs.Table.{key_bytes, row_for, IsTable}
 
 -- ---- a key behind a context

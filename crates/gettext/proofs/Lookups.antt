@@ -1,16 +1,20 @@
 -- Look-ups by the bytes of a key and by its characters.
-use Rattle.std.proofs.Common.{◌≡◌, ℕ, zero, suc, Bool, true, false, cond, ◌&&◌, List, [], ◌∷◌, map, Option, Some, None, refl, sym, ap, subst, ◌∙◌, lit<}
+use Rattle.std.proofs.Common.{◌≡◌, ℕ, zero, suc, ◌+◌, ◌-◌, ◌≤◌, Bool, true, false, cond, ◌&&◌, List, [], ◌∷◌, length, take, drop, map, Option, Some, None, refl, sym, ap, subst, ◌∙◌, arith, lit<}
 use Rattle.std.specs.Option.{option_or, option_map}
 use Rattle.std.specs.List.{slice_get, list_all, AllByRecursion}
-use Rattle.std.specs.Prelude.{encode_utf8_all, IfSome, ◌==◌, if◌then◌else◌}
+use Rattle.std.specs.Prelude.{encode_utf8_all, IfSome}
 use Rattle.std.specs.Borrow.{Bor}
-use Rattle.std.specs.Str.{chars, IsUtf8}
+use Rattle.std.specs.Str.{chars, is_utf8, IsUtf8}
 use Rattle.std.proofs.lemmas.Bool.Decides.{same_from_decides}
 use Rattle.std.proofs.lemmas.Slice.Eq.{bytes_eq-Decides}
+use Rattle.std.proofs.lemmas.List.{length-map, length-take, take-take, drop-take, drop-drop}
 use Rattle.std.proofs.lemmas.Str.{encode_ascii, encodes-append, encodes-chars, encodes_same, IsUtf8-from_is_utf8}
 use Rattle.gettext.specs.declared.table.Row.{Row}
-use Rattle.gettext.specs.Messages.{Messages, Rule, Default, StandsFor, key_of, same_text, lookup, value_of, ◌>>=◌, numbered, form}
-use Rattle.gettext.specs.Table.{key_bytes, form_bytes, message_at, row_for, IsRowOf, held}
+use Rattle.gettext.specs.declared.rule.PluralRule.{PluralRule}
+use Rattle.gettext.specs.Optional.{◌>>=◌}
+use Rattle.gettext.specs.Texts.{same_text}
+use Rattle.gettext.specs.Messages.{Messages, StandsFor, key_of, lookup, numbered, count_of_forms}
+use Rattle.gettext.specs.Table.{bytes_at, key_bytes, form_bytes, message_at, row_for, IsRowOf, held, messages_of, IsRangeOf, IsPieceSpan}
 
 pub list_all-slice_get : {X : Type 0} (p : X → Bool) (xs : List X) (i : ℕ) (x : X) → list_all p xs ≡ true → slice_get xs i ≡ Some x → p x ≡ true
 list_all-slice_get p [] i x all at = absurd cc
@@ -23,7 +27,7 @@ list_all-slice_get p (y ∷ ys) (suc i) x all at = list_all-slice_get p ys i x (
   both true b e = e
   both false b e = absurd cc
 
-slice_get-map : {X Y : Type 0} (f : X → Y) (xs : List X) (i : ℕ) → slice_get (map f xs) i ≡ option_map f (slice_get xs i)
+pub slice_get-map : {X Y : Type 0} (f : X → Y) (xs : List X) (i : ℕ) → slice_get (map f xs) i ≡ option_map f (slice_get xs i)
 slice_get-map f [] i = refl
 slice_get-map f (x ∷ xs) zero = refl
 slice_get-map f (x ∷ xs) (suc i) = slice_get-map f xs i
@@ -67,15 +71,19 @@ row_for-fits b (x ∷ rows) q r all at = either (row_for b rows q) (same_text (k
   either None true rest e = let same : x ≡ r = cc in subst (λ (y : Row). IsRowOf b y) same all.0
   either None false rest e = absurd cc
 
+pub if_fits : (b : List ℕ) (rows : List Row) (q : List ℕ) (o : Option Row) → AllByRecursion (IsRowOf b) rows → o ≡ row_for b rows q → IfSome o (IsRowOf b)
+if_fits b rows q None all at = tt
+if_fits b rows q (Some r) all at = row_for-fits b rows q r all (sym at)
+
 abbrev pub numbered_text : ℕ → List ℕ → ℕ × List ℕ
 numbered_text number bytes = (number, chars bytes)
 
-module _ (b : List ℕ) (rows : List Row) (key : List ℕ) (number : ℕ) (all : AllByRecursion (IsRowOf b) rows) where
-  pub numbered-absent : row_for b rows (encode_utf8_all key) ≡ None → numbered (held b rows).messages key number ≡ None
+module _ (b : List ℕ) (rows : List Row) (rule : PluralRule) (key : List ℕ) (number : ℕ) (all : AllByRecursion (IsRowOf b) rows) where
+  pub numbered-absent : row_for b rows (encode_utf8_all key) ≡ None → numbered (messages_of (held b rows rule)) key number ≡ None
   unfolding numbered held
   numbered-absent none = rw (lookup-messages b rows key all, none) refl
 
-  pub numbered-found : (r : Row) → row_for b rows (encode_utf8_all key) ≡ Some r → numbered (held b rows).messages key number ≡ option_map (numbered_text number) (slice_get (form_bytes b r) number)
+  pub numbered-found : (r : Row) → row_for b rows (encode_utf8_all key) ≡ Some r → numbered (messages_of (held b rows rule)) key number ≡ option_map (numbered_text number) (slice_get (form_bytes b r) number)
   unfolding numbered held message_at
   numbered-found r found = rw (lookup-messages b rows key all, found, slice_get-map chars (form_bytes b r) number) (shown (slice_get (form_bytes b r) number)) where
     shown : (o : Option (List ℕ)) → (option_map chars o >>= λ text. Some (number, text)) ≡ option_map (numbered_text number) o
@@ -91,11 +99,41 @@ pub shown_text : (number : ℕ) (o : Option (Bor (List ℕ))) → option_map (λ
 shown_text number None = refl
 shown_text number (Some t) = refl
 
--- ---- the rule
+-- ---- what a look-up gives
 
-default_value : (rule : Rule) (n : ℕ) → value_of rule n ≡ Some (if n == 1 then 0 else 1)
-default_value Default n = refl
+module _ (b : List ℕ) (rows : List Row) (rule : PluralRule) (key : List ℕ) (all : AllByRecursion (IsRowOf b) rows) where
+  pub no_count : None ≡ row_for b rows (encode_utf8_all key) → None ≡ count_of_forms (messages_of (held b rows rule)) key
+  unfolding held
+  no_count none = rw (lookup-messages b rows key all, ← none) refl
 
-pub form-from_numbered : (kept c : Messages) (key : List ℕ) (n number : ℕ) → StandsFor kept c → number ≡ (if n == 1 then 0 else 1) → form c key n ≡ numbered kept key number
-unfolding form numbered
-form-from_numbered kept c key n number s e = rw (default_value c.rule n, e, s.lookups key) refl
+  pub counted : (r : Row) → Some r ≡ row_for b rows (encode_utf8_all key) → Some (length (form_bytes b r)) ≡ count_of_forms (messages_of (held b rows rule)) key
+  unfolding held message_at
+  counted r found = rw (lookup-messages b rows key all, ← found, length-map) refl
+
+  pub no_range : (number : ℕ) → None ≡ row_for b rows (encode_utf8_all key) → IsRangeOf b None (numbered (messages_of (held b rows rule)) key number)
+  no_range number none = rw (numbered-absent b rows rule key number all (sym none)) tt
+
+  pub no_piece : (number : ℕ) (r : Row) → Some r ≡ row_for b rows (encode_utf8_all key) → slice_get (form_bytes b r) number ≡ None → IsRangeOf b None (numbered (messages_of (held b rows rule)) key number)
+  no_piece number r found none = rw (numbered-found b rows rule key number all r (sym found), none) tt
+
+  pub ranged : (number : ℕ) (r : Row) (s e : ℕ) → Some r ≡ row_for b rows (encode_utf8_all key) → IsRowOf b r → IsPieceSpan (bytes_at b r.forms) (Some (s, e)) (slice_get (form_bytes b r) number)
+      → IsRangeOf b (Some (r.forms.start + s, r.forms.start + e)) (numbered (messages_of (held b rows rule)) key number)
+  ranged number r s e found fits piece =
+      let start : ℕ = r.forms.start in
+      let size : ℕ = r.forms.end - start in
+      let long : e ≤ size = omega (arith, piece.1, length-take size (drop start b)) in
+      let span : start + e - (start + s) ≡ e - s = omega arith in
+      let cut : drop s (take (s + (size - s)) (drop start b)) ≡ take (size - s) (drop s (drop start b)) = drop-take s (size - s) (drop start b) in
+      let whole : s + (size - s) ≡ size = omega (arith, piece.0) in
+      let inner : take (e - s) (drop s (take size (drop start b))) ≡ take (e - s) (drop s (drop start b)) = ap (λ (n : ℕ). take (e - s) (drop s (take n (drop start b)))) (sym whole) ∙ ap (take (e - s)) cut ∙ take-take (e - s) (size - s) (drop s (drop start b)) (omega arith) in
+      let same : take (start + e - (start + s)) (drop (start + s) b) ≡ take (e - s) (drop s (bytes_at b r.forms)) = rw span (ap (take (e - s)) (sym (drop-drop s start b)) ∙ sym inner) in
+      let text : IsUtf8 (take (e - s) (drop s (bytes_at b r.forms))) = IsUtf8-from_is_utf8 _ (list_all-slice_get is_utf8 (form_bytes b r) number _ fits.forms piece.2) in
+      rw (numbered-found b rows rule key number all r (sym found), piece.2)
+      (omega (arith, piece.0), omega (arith, fits.forms_inside.inside, fits.forms_inside.ordered), same ∙ sym (encodes-chars _ text))
+
+pub numbered-stands : (kept c : Messages) (key : List ℕ) (number : ℕ) → StandsFor kept c → numbered kept key number ≡ numbered c key number
+unfolding numbered
+numbered-stands kept c key number s = rw (s.lookups key) refl
+
+pub range-stands : (kept c : Messages) (buffer key : List ℕ) (number : ℕ) (r : Option (ℕ × ℕ)) → StandsFor kept c → IsRangeOf buffer r (numbered kept key number) → IsRangeOf buffer r (numbered c key number)
+range-stands kept c buffer key number r s h = rw (sym (numbered-stands kept c key number s)) h

@@ -1,199 +1,295 @@
 -- A file has no fault exactly where it means something.
-use Rattle.std.proofs.Common.{◌≡◌, ℕ, zero, suc, ◌≤◌, Bool, true, false, ◌&&◌, ◌||◌, List, [], ◌∷◌, length, take, map, Some, None, refl, sym, ap, ◌∙◌, ◌⊎◌, inl, inr}
-use Rattle.std.specs.List.{list_all, AllByRecursion}
-use Rattle.std.specs.Prelude.{nat_le, encode_utf8_all}
-use Rattle.std.specs.Str.{is_utf8, chars}
+use Rattle.std.proofs.Common.{◌≡◌, ℕ, zero, suc, ◌≤◌, Bool, true, false, ◌&&◌, ◌||◌, List, [], ◌∷◌, length, take, map, Option, Some, None, refl, sym, ap, ◌∙◌, ◌⊎◌, inl, inr}
+use Rattle.std.specs.Option.{unwrap_or}
+use Rattle.std.specs.List.{list_all}
+use Rattle.std.specs.Prelude.{nat_le, is_some, ◌==◌}
+use Rattle.std.specs.Str.{chars}
 use Rattle.std.proofs.lemmas.Bool.{leb-true, le-leb}
-use Rattle.std.proofs.lemmas.List.{length-map}
 use Rattle.std.proofs.lemmas.Slice.Eq.{bytes_eq-Decides}
-use Rattle.std.proofs.lemmas.Str.{IsUtf8-from_is_utf8, is_utf8-from_IsUtf8, scalars-chars, encodes-chars, chars_from_encodes}
 use Rattle.gettext.specs.declared.error.Error.{Error}
-use Rattle.gettext.specs.declared.error.Error.TheVariants.{BadMagic, Eof, NoMemory, NotBuilt}
-use Rattle.gettext.specs.declared.table.Row.{Row}
-use Rattle.gettext.specs.Messages.{Message, Messages, Default, same_text, StandsFor}
-use Rattle.gettext.specs.Mo.{Condition, first_failure, IsText, AreTexts, IsRow, AreRows, entries, head_of, pieces_of, original_of, translation_of, count_of, originals_of, translations_of, little_endian, big_endian, header_conditions, row_conditions, rows_conditions, mo_fault}
-use Rattle.gettext.specs.Table.{key_bytes, form_bytes, message_at, row_for, IsRowOf, held}
-use Rattle.gettext.specs.Reading.{row_of, rows_from}
+use Rattle.gettext.specs.declared.error.Error.TheVariants.{BadMagic, Eof, MalformedMetadata, NoMemory, PluralParsing, UnknownEncoding}
+use Rattle.gettext.specs.declared.encoding.Encoding.{Encoding}
+use Rattle.gettext.specs.Options.{Options}
+use Rattle.gettext.specs.Texts.{same_text}
+use Rattle.gettext.specs.Encoding.{is_valid, text_in}
+use Rattle.gettext.specs.Metadata.{Field, value_of}
+use Rattle.gettext.specs.Messages.{Message, Messages, Rule, Default, Expr, has_id}
+use Rattle.gettext.specs.Mo.{Condition, first_failure, AreTexts, IsRow, AreRows, entries, head_of, pieces_of, original_of, translation_of, count_of, originals_of, translations_of, little_endian, big_endian, header_conditions, row_conditions, rows_conditions, metadata_conditions, all_rows_conditions, mo_fault, row_message, fields_in_file, header_fields, plural_of, IsRuleBy, rule_by, rule_of, named_encoding, first_encoding, later_encoding}
+use Rattle.gettext.specs.Files.{found_fields}
 use Rattle.gettext.proofs.Conditions.{failed_first, passed_first, head_passes, parts_pass}
-use Rattle.gettext.proofs.Lookups.{lookup-messages}
-use Rattle.gettext.proofs.Rows.{key_bytes-row_of, form_bytes-row_of, RowHolds, row_holds, row_passes, row_fits}
+use Rattle.gettext.proofs.Encodings.{IsText-is, IsText-text_in}
+use Rattle.gettext.proofs.ExpressionOf.{expression_found, expression_is, some_mapped}
+use Rattle.gettext.proofs.Ids.{has_id-text_in}
+use Rattle.gettext.proofs.MetadataSettings.{first_named, rule_without}
+use Rattle.gettext.proofs.Rows.{RowHolds, row_holds, row_passes}
 
 -- ---- texts
-
-IsText-chars : (bytes : List ℕ) → is_utf8 bytes ≡ true → IsText bytes (chars bytes)
-IsText-chars bytes u = record { scalars = scalars-chars bytes (IsUtf8-from_is_utf8 bytes u); spelled = encodes-chars bytes (IsUtf8-from_is_utf8 bytes u) }
-
-IsText-is : (bytes text : List ℕ) → IsText bytes text → (is_utf8 bytes ≡ true) × (text ≡ chars bytes)
-IsText-is bytes text t =
-    (is_utf8-from_IsUtf8 bytes (text, (t.scalars, t.spelled)), chars_from_encodes text bytes (text, (t.scalars, t.spelled)) t.spelled)
 
 both_true : (a b : Bool) → (a && b) ≡ true → (a ≡ true) × (b ≡ true)
 both_true true b e = (refl, e)
 both_true false b e = absurd cc
 
-AreTexts-chars : (pieces : List (List ℕ)) → list_all is_utf8 pieces ≡ true → AreTexts pieces (map chars pieces)
-AreTexts-chars [] all = tt
-AreTexts-chars (p ∷ pieces) all =
-    let both = both_true (is_utf8 p) (list_all is_utf8 pieces) all in
-    (IsText-chars p both.0, AreTexts-chars pieces both.1)
+AreTexts-texts : (e : Encoding) (pieces : List (List ℕ)) → list_all (is_valid e) pieces ≡ true → AreTexts e pieces (map (text_in e) pieces)
+AreTexts-texts e [] all = tt
+AreTexts-texts e (p ∷ pieces) all =
+    let both = both_true (is_valid e p) (list_all (is_valid e) pieces) all in
+    (IsText-text_in e p both.0, AreTexts-texts e pieces both.1)
 
-AreTexts-are : (pieces texts : List (List ℕ)) → AreTexts pieces texts → (list_all is_utf8 pieces ≡ true) × (texts ≡ map chars pieces)
-AreTexts-are [] [] t = (refl, refl)
-AreTexts-are (p ∷ pieces) (x ∷ texts) t =
-    let first = IsText-is p x t.0 in
-    let rest = AreTexts-are pieces texts t.1 in
-    (rw first.0 rest.0, cc)
-AreTexts-are [] (x ∷ texts) t = absurd t
-AreTexts-are (p ∷ pieces) [] t = absurd t
+AreTexts-are : (e : Encoding) (pieces texts : List (List ℕ)) → AreTexts e pieces texts → (list_all (is_valid e) pieces ≡ true) × (texts ≡ map (text_in e) pieces)
+AreTexts-are e [] [] t = (refl, refl)
+AreTexts-are e (p ∷ pieces) (x ∷ texts) t =
+    let first = IsText-is e p x t.0 in
+    let rest = AreTexts-are e pieces texts t.1 in
+    (rw first.0 rest.0, rw (first.1, rest.1) refl)
+AreTexts-are e [] (x ∷ texts) t = absurd t
+AreTexts-are e (p ∷ pieces) [] t = absurd t
 
 -- ---- rows
 
-row_means : (b : List ℕ) (i : ℕ) → RowHolds b i → IsRow b i (message_at b (row_of b i))
-unfolding message_at
-row_means b i h =
+row_means : (b : List ℕ) (e : Encoding) (i : ℕ) → RowHolds b e i → IsRow b e i (row_message b e i)
+unfolding row_message
+row_means b e i h =
     record {
       original = h.original;
       ended = h.ended;
-      plain = h.plain;
-      key = rw (key_bytes-row_of b i) (IsText-chars (head_of (original_of b i)) h.key);
+      key = IsText-text_in e (head_of (original_of b i)) h.key;
+      id = rw (has_id-text_in e (head_of (original_of b i)) h.key) h.id;
       translation = h.translation;
-      forms = rw (form_bytes-row_of b i) (AreTexts-chars (pieces_of (translation_of b i)) h.forms);
+      forms = AreTexts-texts e (pieces_of (translation_of b i)) h.forms;
     }
 
-row_is : (b : List ℕ) (i : ℕ) (m : Message) → IsRow b i m → RowHolds b i × (m ≡ message_at b (row_of b i))
-unfolding message_at
-row_is b i m r =
-    let key = IsText-is (head_of (original_of b i)) m.key r.key in
-    let forms = AreTexts-are (pieces_of (translation_of b i)) m.forms r.forms in
-    let k : m.key ≡ chars (key_bytes b (row_of b i)) = rw (key_bytes-row_of b i) key.1 in
-    let f : m.forms ≡ map chars (form_bytes b (row_of b i)) = rw (form_bytes-row_of b i) forms.1 in
-    (record { original = r.original; ended = r.ended; plain = r.plain; key = key.0; translation = r.translation; forms = forms.0 }, λ i. record { key = k i; forms = f i })
+row_is : (b : List ℕ) (e : Encoding) (i : ℕ) (m : Message) → IsRow b e i m → RowHolds b e i × (m ≡ row_message b e i)
+unfolding row_message
+row_is b e i m r =
+    let key = IsText-is e (head_of (original_of b i)) m.key r.key in
+    let forms = AreTexts-are e (pieces_of (translation_of b i)) m.forms r.forms in
+    let id : ((i == 0) || has_id (head_of (original_of b i))) ≡ true = rw (← has_id-text_in e (head_of (original_of b i)) key.0, ← key.1) r.id in
+    let k : m.key ≡ text_in e (head_of (original_of b i)) = key.1 in
+    let f : m.forms ≡ map (text_in e) (pieces_of (translation_of b i)) = forms.1 in
+    (record { original = r.original; ended = r.ended; key = key.0; id = id; translation = r.translation; forms = forms.0 }, λ j. record { key = k j; forms = f j })
 
-rows_mean : (b : List ℕ) (i n : ℕ) → first_failure (rows_conditions b i n) ≡ None → AreRows b i (map (message_at b) (rows_from b i n))
-unfolding rows_conditions rows_from
-rows_mean b i zero h = tt
-rows_mean b i (suc n) h =
-    let both = parts_pass (row_conditions b i) (rows_conditions b (suc i) n) h in
-    (row_means b i (row_holds b i both.0), rows_mean b (suc i) n both.1)
+unfoldable pub row_messages : List ℕ → Encoding → ℕ → ℕ → List Message
+row_messages b e i zero = []
+row_messages b e i (suc n) = row_message b e i ∷ row_messages b e (suc i) n
 
-rows_are : (b : List ℕ) (i : ℕ) (ms : List Message) → AreRows b i ms → (first_failure (rows_conditions b i (length ms)) ≡ None) × (ms ≡ map (message_at b) (rows_from b i (length ms)))
-unfolding rows_conditions rows_from
-rows_are b i [] r = (refl, refl)
-rows_are b i (m ∷ ms) r =
-    let first = row_is b i m r.0 in
-    let rest = rows_are b (suc i) ms r.1 in
-    (passed_first (row_conditions b i) (rows_conditions b (suc i) (length ms)) (row_passes b i first.0) ∙ rest.0, cc)
+rows_mean : (b : List ℕ) (e : Encoding) (i n : ℕ) → first_failure (rows_conditions b e i n) ≡ None → AreRows b e e i (row_messages b e i n)
+unfolding rows_conditions row_messages
+rows_mean b e i zero h = tt
+rows_mean b e i (suc n) h =
+    let both = parts_pass (row_conditions b e i) (rows_conditions b e (suc i) n) h in
+    (row_means b e i (row_holds b e i both.0), rows_mean b e (suc i) n both.1)
 
-pub rows_fit : (b : List ℕ) (i n : ℕ) → first_failure (rows_conditions b i n) ≡ None → AllByRecursion (IsRowOf b) (rows_from b i n)
-unfolding rows_conditions rows_from
-rows_fit b i zero h = tt
-rows_fit b i (suc n) h =
-    let both = parts_pass (row_conditions b i) (rows_conditions b (suc i) n) h in
-    (row_fits b i (row_holds b i both.0), rows_fit b (suc i) n both.1)
+rows_are : (b : List ℕ) (e : Encoding) (i : ℕ) (ms : List Message) → AreRows b e e i ms → (first_failure (rows_conditions b e i (length ms)) ≡ None) × (ms ≡ row_messages b e i (length ms))
+unfolding rows_conditions row_messages
+rows_are b e i [] r = (refl, refl)
+rows_are b e i (m ∷ ms) r =
+    let first = row_is b e i m r.0 in
+    let rest = rows_are b e (suc i) ms r.1 in
+    (passed_first (row_conditions b e i) (rows_conditions b e (suc i) (length ms)) (row_passes b e i first.0) ∙ rest.0, cc)
 
-length-rows_from : (b : List ℕ) (i n : ℕ) → length (rows_from b i n) ≡ n
-unfolding rows_from
-length-rows_from b i zero = refl
-length-rows_from b i (suc n) = ap suc (length-rows_from b (suc i) n)
+length-row_messages : (b : List ℕ) (e : Encoding) (i n : ℕ) → length (row_messages b e i n) ≡ n
+unfolding row_messages
+length-row_messages b e i zero = refl
+length-row_messages b e i (suc n) = ap suc (length-row_messages b e (suc i) n)
+
+-- ---- the metadata
+
+rule_by-is : (forced : Bool) (plural : Option (List ℕ)) (rule : Rule) → IsRuleBy forced plural rule → rule_by forced plural ≡ Some rule
+rule_by-is true plural rule h = rw h refl
+rule_by-is false None rule h = rw h refl
+rule_by-is false (Some text) rule h = rw (expression_found (chars text) h.0 h.1, h.2) refl
+
+rule_by-holds : (forced : Bool) (plural : Option (List ℕ)) (rule : Rule) → rule_by forced plural ≡ Some rule → IsRuleBy forced plural rule
+rule_by-holds true plural rule h = cc
+rule_by-holds false None rule h = cc
+rule_by-holds false (Some text) rule h =
+    let found = some_mapped Expr _ rule h in
+    (found.0, expression_is (chars text) found.0 found.1, sym found.2)
+
+-- what metadata settle
+record Settled (o : Options) (found : Option (List Field)) : Type 0 where
+  pub fields : List Field
+  pub is : found ≡ Some fields
+  pub encoding : Encoding
+  pub named : named_encoding o fields ≡ Some encoding
+  pub rule : Rule
+  pub ruled : rule_of o fields ≡ Some rule
+
+some_passes : {X : Type 0} (r : Option X) → is_some r ≡ true → (x : X) × (r ≡ Some x)
+some_passes None h = absurd cc
+some_passes (Some x) h = (x, refl)
+
+settled : (o : Options) (found : Option (List Field)) → first_failure (metadata_conditions o found) ≡ None → Settled o found
+unfolding metadata_conditions
+settled o None h = absurd cc
+settled o (Some fields) h =
+    let encoding : Condition = (is_some (named_encoding o fields), UnknownEncoding) in
+    let rule : Condition = (is_some (rule_of o fields), PluralParsing) in
+    let first = head_passes (true, MalformedMetadata) (encoding ∷ rule ∷ []) h in
+    let second = head_passes encoding (rule ∷ []) first.1 in
+    let third = head_passes rule [] second.1 in
+    let e = some_passes (named_encoding o fields) second.0 in
+    let r = some_passes (rule_of o fields) third.0 in
+    record { fields = fields; is = refl; encoding = e.0; named = e.1; rule = r.0; ruled = r.1 }
+
+settled_passes : (o : Options) (found : Option (List Field)) → Settled o found → first_failure (metadata_conditions o found) ≡ None
+unfolding metadata_conditions
+settled_passes o found s = rw (s.is, s.named, s.ruled) refl
+
+-- without rows
+settled_by_nothing : (o : Options) → Settled o (Some [])
+unfolding value_of
+settled_by_nothing o = record { fields = []; is = refl; encoding = first_encoding o; named = first_named o.encoding; rule = _; ruled = rule_without o.forced }
 
 -- ---- the header
 
 pub record HeaderHolds (b : List ℕ) : Type 0 where
   pub header : 28 ≤ length b
-  pub magic : take 4 b ≡ little_endian
+  pub magic : (take 4 b ≡ little_endian) ⊎ (take 4 b ≡ big_endian)
   pub originals : originals_of b ≤ length b
   pub translations : translations_of b ≤ length b
 
-or_true : (a b : Bool) → a ≡ true → (a || b) ≡ true
-or_true a b e = rw e refl
+magic_test : (m : List ℕ) → (m ≡ little_endian) ⊎ (m ≡ big_endian) → (same_text m little_endian || same_text m big_endian) ≡ true
+magic_test m (inl e) = rw ((bytes_eq-Decides m little_endian).1 e) refl
+magic_test m (inr e) = or_right (same_text m little_endian) (same_text m big_endian) ((bytes_eq-Decides m big_endian).1 e) where
+  or_right : (a b : Bool) → b ≡ true → (a || b) ≡ true
+  or_right true b e = refl
+  or_right false b e = e
+
+magic_is : (m : List ℕ) → (same_text m little_endian || same_text m big_endian) ≡ true → (m ≡ little_endian) ⊎ (m ≡ big_endian)
+magic_is m e = by_test (same_text m little_endian) refl e where
+  by_test : (a : Bool) → same_text m little_endian ≡ a → (a || same_text m big_endian) ≡ true → (m ≡ little_endian) ⊎ (m ≡ big_endian)
+  by_test true h e = inl ((bytes_eq-Decides m little_endian).0 h)
+  by_test false h e = inr ((bytes_eq-Decides m big_endian).0 e)
 
 pub header_passes : (b : List ℕ) → HeaderHolds b → first_failure (header_conditions b) ≡ None
 unfolding header_conditions
-header_passes b h =
-    let same : same_text (take 4 b) little_endian ≡ true = (bytes_eq-Decides (take 4 b) little_endian).1 h.magic in
-    rw (le-leb 28 (length b) h.header, same, le-leb _ _ h.originals, le-leb _ _ h.translations) refl
+header_passes b h = rw (le-leb 28 (length b) h.header, magic_test (take 4 b) h.magic, le-leb _ _ h.originals, le-leb _ _ h.translations) refl
 
 pub header_holds : (b : List ℕ) → first_failure (header_conditions b) ≡ None → HeaderHolds b
 unfolding header_conditions
 header_holds b h =
     let long : Condition = (nat_le 28 (length b), Eof) in
     let magic : Condition = (same_text (take 4 b) little_endian || same_text (take 4 b) big_endian, BadMagic) in
-    let little : Condition = (same_text (take 4 b) little_endian, NotBuilt) in
     let originals : Condition = (nat_le (originals_of b) (length b), Eof) in
     let translations : Condition = (nat_le (translations_of b) (length b), Eof) in
-    let first = head_passes long (magic ∷ little ∷ originals ∷ translations ∷ []) h in
-    let second = head_passes magic (little ∷ originals ∷ translations ∷ []) first.1 in
-    let third = head_passes little (originals ∷ translations ∷ []) second.1 in
-    let fourth = head_passes originals (translations ∷ []) third.1 in
-    let fifth = head_passes translations [] fourth.1 in
+    let first = head_passes long (magic ∷ originals ∷ translations ∷ []) h in
+    let second = head_passes magic (originals ∷ translations ∷ []) first.1 in
+    let third = head_passes originals (translations ∷ []) second.1 in
+    let fourth = head_passes translations [] third.1 in
     record {
       header = leb-true _ _ first.0;
-      magic = (bytes_eq-Decides (take 4 b) little_endian).0 third.0;
-      originals = leb-true _ _ fourth.0;
-      translations = leb-true _ _ fifth.0;
+      magic = magic_is (take 4 b) second.0;
+      originals = leb-true _ _ third.0;
+      translations = leb-true _ _ fourth.0;
     }
 
 -- ---- the file
 
-pub meaning : List ℕ → Messages
-meaning b = record { rule = Default; pairs = map (message_at b) (rows_from b 0 (count_of b)) }
+unfoldable pub all_messages : List ℕ → Options → ℕ → List Message
+all_messages b o zero = []
+all_messages b o (suc n) = row_message b (first_encoding o) 0 ∷ row_messages b (later_encoding b o) 1 n
 
-pub has_meaning : (b : List ℕ) → mo_fault b ≡ None → entries b (meaning b)
-unfolding mo_fault meaning
-has_meaning b h =
-    let both = parts_pass (header_conditions b) (rows_conditions b 0 (count_of b)) h in
+unfoldable pub rule_found : List ℕ → Options → ℕ → Rule
+rule_found b o n = unwrap_or (rule_of o (unwrap_or (found_fields b o n) [])) Default
+
+unfoldable pub meaning : List ℕ → Options → Messages
+meaning b o = record { rule = rule_found b o (count_of b); pairs = all_messages b o (count_of b) }
+
+-- what all rows say where their conditions hold
+record RowsMean (b : List ℕ) (o : Options) (n : ℕ) : Type 0 where
+  pub settles : Settled o (found_fields b o n)
+  pub header : header_fields (all_messages b o n) ≡ Some settles.fields
+  pub rows : AreRows b (first_encoding o) settles.encoding 0 (all_messages b o n)
+  pub count : length (all_messages b o n) ≡ n
+
+named_later : (b : List ℕ) (o : Options) (s : Settled o (fields_in_file b o)) → later_encoding b o ≡ s.encoding
+unfolding later_encoding
+named_later b o s = rw (s.is, s.named) refl
+
+all_rows_mean : (b : List ℕ) (o : Options) (n : ℕ) → first_failure (all_rows_conditions b o n) ≡ None → RowsMean b o n
+unfolding all_rows_conditions all_messages found_fields fields_in_file settled_by_nothing
+all_rows_mean b o zero h = record { settles = settled_by_nothing o; header = refl; rows = tt; count = refl }
+all_rows_mean b o (suc n) h =
+    let first = parts_pass (row_conditions b (first_encoding o) 0) _ h in
+    let second = parts_pass (metadata_conditions o (fields_in_file b o)) (rows_conditions b (later_encoding b o) 1 n) first.1 in
+    let s = settled o (fields_in_file b o) second.0 in
+    record {
+      settles = s;
+      header = s.is;
+      rows = (row_means b (first_encoding o) 0 (row_holds b (first_encoding o) 0 first.0), rw (← named_later b o s) (rows_mean b (later_encoding b o) 1 n second.1));
+      count = ap suc (length-row_messages b (later_encoding b o) 1 n);
+    }
+
+all_rows_are : (b : List ℕ) (o : Options) (pairs : List Message) (fields : List Field) (encoding : Encoding) (rule : Rule) → header_fields pairs ≡ Some fields → named_encoding o fields ≡ Some encoding → rule_of o fields ≡ Some rule
+    → AreRows b (first_encoding o) encoding 0 pairs → (first_failure (all_rows_conditions b o (length pairs)) ≡ None) × (pairs ≡ all_messages b o (length pairs)) × (found_fields b o (length pairs) ≡ Some fields)
+unfolding all_rows_conditions all_messages found_fields fields_in_file settled_by_nothing
+all_rows_are b o [] fields encoding rule h n r rows = (refl, refl, h)
+all_rows_are b o (m ∷ ms) fields encoding rule h n r rows =
+    let first = row_is b (first_encoding o) 0 m rows.0 in
+    let is : fields_in_file b o ≡ Some fields = rw (← first.1) h in
+    let s : Settled o (fields_in_file b o) = record { fields = fields; is = is; encoding = encoding; named = n; rule = rule; ruled = r } in
+    let rest = rows_are b (later_encoding b o) 1 ms (rw (named_later b o s) rows.1) in
+    let metadata = passed_first (metadata_conditions o (fields_in_file b o)) (rows_conditions b (later_encoding b o) 1 (length ms)) (settled_passes o (fields_in_file b o) s) in
+    (passed_first (row_conditions b (first_encoding o) 0) _ (row_passes b (first_encoding o) 0 first.0) ∙ metadata ∙ rest.0, cc, is)
+
+pub has_meaning : (b : List ℕ) (o : Options) → mo_fault b o ≡ None → entries b o (meaning b o)
+unfolding mo_fault meaning rule_found
+has_meaning b o h =
+    let both = parts_pass (header_conditions b) (all_rows_conditions b o (count_of b)) h in
     let header = header_holds b both.0 in
+    let m = all_rows_mean b o (count_of b) both.1 in
+    let rule : rule_of o m.settles.fields ≡ Some (rule_found b o (count_of b)) = rw (m.settles.is, m.settles.ruled) refl in
     record {
       header = header.header;
       magic = header.magic;
       originals = header.originals;
       translations = header.translations;
-      count = length-map (rows_from b 0 (count_of b)) (message_at b) ∙ length-rows_from b 0 (count_of b);
-      rows = rows_mean b 0 (count_of b) both.1;
-      rule = refl;
+      count = m.count;
+      fields = m.settles.fields;
+      metadata = m.header;
+      encoding = m.settles.encoding;
+      charset = m.settles.named;
+      rows = m.rows;
+      rule = rule_by-holds o.forced (plural_of m.settles.fields) (rule_found b o (count_of b)) rule;
     }
 
-pub is_meaning : (b : List ℕ) (c : Messages) → entries b c → (mo_fault b ≡ None) × (c ≡ meaning b)
-unfolding mo_fault meaning
-is_meaning b c h =
-    let rows = rows_are b 0 c.pairs h.rows in
+pub is_meaning : (b : List ℕ) (o : Options) (c : Messages) → entries b o c → (mo_fault b o ≡ None) × (c ≡ meaning b o)
+unfolding mo_fault meaning rule_found
+is_meaning b o c h =
+    let ruled = rule_by-is o.forced (plural_of h.fields) c.rule h.rule in
+    let rows = all_rows_are b o c.pairs h.fields h.encoding c.rule h.metadata h.charset ruled h.rows in
     let counted = rw h.count at rows in
     let header = header_passes b (record { header = h.header; magic = h.magic; originals = h.originals; translations = h.translations }) in
-    let pairs : c.pairs ≡ map (message_at b) (rows_from b 0 (count_of b)) = counted.1 in
-    (passed_first (header_conditions b) (rows_conditions b 0 (count_of b)) header ∙ counted.0, λ i. record { rule = h.rule i; pairs = pairs i })
+    let pairs : c.pairs ≡ all_messages b o (count_of b) = counted.1 in
+    let rule : c.rule ≡ rule_found b o (count_of b) = rw (counted.2, ruled) refl in
+    (passed_first (header_conditions b) (all_rows_conditions b o (count_of b)) header ∙ counted.0, λ i. record { rule = rule i; pairs = pairs i })
 
--- ---- the table
-
--- a table whose look-ups are those of the rows stands for the file's meaning
-pub stands : (b : List ℕ) (rows : List Row) (c : Messages) → AllByRecursion (IsRowOf b) rows → ((q : List ℕ) → row_for b rows q ≡ row_for b (rows_from b 0 (count_of b)) q) → entries b c → StandsFor (held b rows).messages c
-unfolding held mo_fault meaning
-stands b rows c fits finds h =
-    let is = is_meaning b c h in
-    let fitting = rows_fit b 0 (count_of b) (parts_pass (header_conditions b) (rows_conditions b 0 (count_of b)) is.0).1 in
-    record {
-      rule = sym h.rule;
-      lookups = λ key. rw (is.1, lookup-messages b rows key fits, lookup-messages b (rows_from b 0 (count_of b)) key fitting, finds (encode_utf8_all key)) refl;
-    }
+pub fields_are : (b : List ℕ) (o : Options) (c : Messages) (h : entries b o c) → found_fields b o (count_of b) ≡ Some h.fields
+fields_are b o c h =
+    let ruled = rule_by-is o.forced (plural_of h.fields) c.rule h.rule in
+    let counted = rw h.count at (all_rows_are b o c.pairs h.fields h.encoding c.rule h.metadata h.charset ruled h.rows) in
+    counted.2
 
 -- ---- what reading says
 
-pub header_fails : (b : List ℕ) (e : Error) → first_failure (header_conditions b) ≡ Some e → mo_fault b ≡ Some e
+pub header_fails : (b : List ℕ) (o : Options) (e : Error) → first_failure (header_conditions b) ≡ Some e → mo_fault b o ≡ Some e
 unfolding mo_fault
-header_fails b e h = failed_first (header_conditions b) (rows_conditions b 0 (count_of b)) e h
+header_fails b o e h = failed_first (header_conditions b) (all_rows_conditions b o (count_of b)) e h
 
-pub rows_fail : (b : List ℕ) (count : ℕ) (e : Error) → count ≡ count_of b → first_failure (header_conditions b) ≡ None → (e ≡ NoMemory) ⊎ (first_failure (rows_conditions b 0 count) ≡ Some e) → (e ≡ NoMemory) ⊎ (mo_fault b ≡ Some e)
+pub rows_fail : (b : List ℕ) (o : Options) (count : ℕ) (e : Error) → count ≡ count_of b → first_failure (header_conditions b) ≡ None → (e ≡ NoMemory) ⊎ (first_failure (all_rows_conditions b o count) ≡ Some e) → (e ≡ NoMemory) ⊎ (mo_fault b o ≡ Some e)
 unfolding mo_fault
-rows_fail b count e k passed (inl memory) = inl memory
-rows_fail b count e k passed (inr h) = inr (passed_first (header_conditions b) (rows_conditions b 0 (count_of b)) passed ∙ (rw k at h))
+rows_fail b o count e k passed (inl memory) = inl memory
+rows_fail b o count e k passed (inr h) = inr (passed_first (header_conditions b) (all_rows_conditions b o (count_of b)) passed ∙ (rw k at h))
 
-pub all_pass : (b : List ℕ) (count : ℕ) → count ≡ count_of b → first_failure (header_conditions b) ≡ None → first_failure (rows_conditions b 0 count) ≡ None → mo_fault b ≡ None
+pub all_pass : (b : List ℕ) (o : Options) (count : ℕ) → count ≡ count_of b → first_failure (header_conditions b) ≡ None → first_failure (all_rows_conditions b o count) ≡ None → mo_fault b o ≡ None
 unfolding mo_fault
-all_pass b count k passed h = passed_first (header_conditions b) (rows_conditions b 0 (count_of b)) passed ∙ (rw k at h)
+all_pass b o count k passed h = passed_first (header_conditions b) (all_rows_conditions b o (count_of b)) passed ∙ (rw k at h)
 
-pub only_memory : (b : List ℕ) (c : Messages) (e : Error) → entries b c → (e ≡ NoMemory) ⊎ (mo_fault b ≡ Some e) → e ≡ NoMemory
-only_memory b c e h (inl memory) = memory
-only_memory b c e h (inr fault) = let none = (is_meaning b c h).0 in absurd cc
+pub only_memory : (b : List ℕ) (o : Options) (c : Messages) (e : Error) → entries b o c → (e ≡ NoMemory) ⊎ (mo_fault b o ≡ Some e) → e ≡ NoMemory
+only_memory b o c e h (inl memory) = memory
+only_memory b o c e h (inr fault) = let none = (is_meaning b o c h).0 in absurd cc
 
-pub is_fault : (b : List ℕ) (fault e : Error) → mo_fault b ≡ Some fault → (e ≡ NoMemory) ⊎ (mo_fault b ≡ Some e) → (e ≡ NoMemory) ⊎ (e ≡ fault)
-is_fault b fault e h (inl memory) = inl memory
-is_fault b fault e h (inr other) = inr cc
+pub is_fault : (b : List ℕ) (o : Options) (fault e : Error) → mo_fault b o ≡ Some fault → (e ≡ NoMemory) ⊎ (mo_fault b o ≡ Some e) → (e ≡ NoMemory) ⊎ (e ≡ fault)
+is_fault b o fault e h (inl memory) = inl memory
+is_fault b o fault e h (inr other) = inr cc

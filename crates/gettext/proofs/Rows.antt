@@ -1,16 +1,18 @@
 -- What a row is where its conditions hold.
-use Rattle.std.proofs.Common.{◌≡◌, ℕ, ◌+◌, ◌-◌, ◌≤◌, true, not, List, [], ◌∷◌, length, take, drop, None, refl, sym, ap, ◌∙◌, arith}
+use Rattle.std.proofs.Common.{◌≡◌, ℕ, ◌+◌, ◌-◌, ◌≤◌, true, not, ◌||◌, List, [], ◌∷◌, length, take, drop, None, refl, sym, ap, ◌∙◌, arith}
 use Rattle.std.specs.List.{list_any, list_all, position_or_len}
-use Rattle.std.specs.Str.{is_utf8}
-use Rattle.std.specs.Prelude.{nat_le}
+use Rattle.std.specs.Prelude.{nat_le, ◌==◌}
 use Rattle.std.proofs.lemmas.Bool.{leb-true, le-leb}
 use Rattle.std.proofs.lemmas.List.{length-take, take-take}
 use Rattle.std.proofs.lemmas.List.Folds.{length-prefix_len}
-use Rattle.gettext.specs.declared.error.Error.TheVariants.{DecodingError, Eof, NotBuilt}
+use Rattle.gettext.specs.declared.error.Error.TheVariants.{DecodingError, Eof, MisplacedMetadata}
+use Rattle.gettext.specs.declared.encoding.Encoding.{Encoding}
+use Rattle.gettext.specs.Encoding.{is_valid}
+use Rattle.gettext.specs.Messages.{has_id}
 use Rattle.gettext.specs.declared.table.Span.{Span}
-use Rattle.gettext.specs.Mo.{Condition, LiesInside, first_failure, row_place, is_nul, is_plain, head_of, head_conditions, pieces_of, originals_of, translations_of, original_of, translation_of, text_offset, text_length, text_conditions, forms_conditions, original_conditions, translation_conditions, row_conditions}
-use Rattle.gettext.specs.Table.{key_bytes, form_bytes, IsRowOf}
-use Rattle.gettext.specs.Reading.{text_span, head_span, row_of, IsTextSpan, IsReadRow}
+use Rattle.gettext.specs.Mo.{Condition, LiesInside, first_failure, row_place, is_nul, head_of, head_conditions, pieces_of, originals_of, translations_of, original_of, translation_of, text_offset, text_length, text_conditions, forms_conditions, original_conditions, translation_conditions, row_conditions}
+use Rattle.gettext.specs.Table.{key_bytes, form_bytes}
+use Rattle.gettext.specs.Reading.{text_span, head_span, row_of, IsTextSpan, IsRowIn, IsReadRow}
 use Rattle.gettext.proofs.Conditions.{passed_first, head_passes, parts_pass}
 
 -- ---- the bytes that the ranges of a row hold
@@ -35,13 +37,13 @@ form_bytes-row_of b i =
 
 -- ---- what the conditions of a row say
 
-pub record RowHolds (b : List ℕ) (i : ℕ) : Type 0 where
+pub record RowHolds (b : List ℕ) (e : Encoding) (i : ℕ) : Type 0 where
   pub original : LiesInside b (originals_of b) i
   pub ended : list_any is_nul (original_of b i) ≡ true
-  pub plain : is_plain (head_of (original_of b i)) ≡ true
-  pub key : is_utf8 (head_of (original_of b i)) ≡ true
+  pub key : is_valid e (head_of (original_of b i)) ≡ true
+  pub id : ((i == 0) || has_id (head_of (original_of b i))) ≡ true
   pub translation : LiesInside b (translations_of b) i
-  pub forms : list_all is_utf8 (pieces_of (translation_of b i)) ≡ true
+  pub forms : list_all (is_valid e) (pieces_of (translation_of b i)) ≡ true
 
 text_holds : (b : List ℕ) (table i : ℕ) → first_failure (text_conditions b table i) ≡ None → LiesInside b table i
 unfolding text_conditions
@@ -55,39 +57,39 @@ text_passes : (b : List ℕ) (table i : ℕ) → LiesInside b table i → first_
 unfolding text_conditions
 text_passes b table i h = rw (le-leb _ _ h.row, le-leb _ _ h.text) refl
 
-pub row_holds : (b : List ℕ) (i : ℕ) → first_failure (row_conditions b i) ≡ None → RowHolds b i
+pub row_holds : (b : List ℕ) (e : Encoding) (i : ℕ) → first_failure (row_conditions b e i) ≡ None → RowHolds b e i
 unfolding row_conditions original_conditions translation_conditions head_conditions forms_conditions
-row_holds b i h =
-    let text : Condition = (is_utf8 (head_of (original_of b i)), DecodingError) in
-    let plain : Condition = (is_plain (head_of (original_of b i)), NotBuilt) in
+row_holds b e i h =
+    let text : Condition = (is_valid e (head_of (original_of b i)), DecodingError) in
+    let id : Condition = ((i == 0) || has_id (head_of (original_of b i)), MisplacedMetadata) in
     let ended : Condition = (list_any is_nul (original_of b i), Eof) in
-    let forms : Condition = (list_all is_utf8 (pieces_of (translation_of b i)), DecodingError) in
-    let both = parts_pass (original_conditions b i) (translation_conditions b i) h in
-    let original = parts_pass (text_conditions b (originals_of b) i) (ended ∷ plain ∷ text ∷ []) both.0 in
+    let forms : Condition = (list_all (is_valid e) (pieces_of (translation_of b i)), DecodingError) in
+    let both = parts_pass (original_conditions b e i) (translation_conditions b e i) h in
+    let original = parts_pass (text_conditions b (originals_of b) i) (ended ∷ text ∷ id ∷ []) both.0 in
     let translation = parts_pass (text_conditions b (translations_of b) i) (forms ∷ []) both.1 in
-    let first = head_passes ended (plain ∷ text ∷ []) original.1 in
-    let second = head_passes plain (text ∷ []) first.1 in
-    let third = head_passes text [] second.1 in
+    let first = head_passes ended (text ∷ id ∷ []) original.1 in
+    let second = head_passes text (id ∷ []) first.1 in
+    let third = head_passes id [] second.1 in
     let fourth = head_passes forms [] translation.1 in
     record {
       original = text_holds b (originals_of b) i original.0;
       ended = first.0;
-      plain = second.0;
-      key = third.0;
+      key = second.0;
+      id = third.0;
       translation = text_holds b (translations_of b) i translation.0;
       forms = fourth.0;
     }
 
-pub row_passes : (b : List ℕ) (i : ℕ) → RowHolds b i → first_failure (row_conditions b i) ≡ None
+pub row_passes : (b : List ℕ) (e : Encoding) (i : ℕ) → RowHolds b e i → first_failure (row_conditions b e i) ≡ None
 unfolding row_conditions original_conditions translation_conditions head_conditions forms_conditions
-row_passes b i h =
-    let original : first_failure (original_conditions b i) ≡ None = passed_first (text_conditions b (originals_of b) i) _ (text_passes b (originals_of b) i h.original) ∙ rw (h.ended, h.plain, h.key) refl in
-    let translation : first_failure (translation_conditions b i) ≡ None = passed_first (text_conditions b (translations_of b) i) _ (text_passes b (translations_of b) i h.translation) ∙ rw h.forms refl in
-    passed_first (original_conditions b i) (translation_conditions b i) original ∙ translation
+row_passes b e i h =
+    let original : first_failure (original_conditions b e i) ≡ None = passed_first (text_conditions b (originals_of b) i) _ (text_passes b (originals_of b) i h.original) ∙ rw (h.ended, h.key, h.id) refl in
+    let translation : first_failure (translation_conditions b e i) ≡ None = passed_first (text_conditions b (translations_of b) i) _ (text_passes b (translations_of b) i h.translation) ∙ rw h.forms refl in
+    passed_first (original_conditions b e i) (translation_conditions b e i) original ∙ translation
 
-pub row_fits : (b : List ℕ) (i : ℕ) → RowHolds b i → IsRowOf b (row_of b i)
+pub row_fits : (b : List ℕ) (e : Encoding) (i : ℕ) → RowHolds b e i → IsRowIn b e (row_of b i)
 unfolding row_of head_span text_span head_of
-row_fits b i h =
+row_fits b e i h =
     let place : ℕ = position_or_len is_nul (original_of b i) in
     let exact = length-prefix_len (λ x. not (is_nul x)) (original_of b i) in
     let short = length-take place (original_of b i) in
@@ -101,22 +103,22 @@ row_fits b i h =
 
 -- ---- reading
 
-pub key_read : (b : List ℕ) (i originals : ℕ) (span : Span) (len : ℕ) → originals ≡ originals_of b → IsTextSpan b originals i span → first_failure (text_conditions b originals i) ≡ None
-    → len ≡ length (head_of (take (span.end + 1 - span.start) (drop span.start b))) → first_failure (head_conditions (take (span.end + 1 - span.start) (drop span.start b))) ≡ None
-    → (record { start = span.start; end = span.start + len } ≡ head_span b i) × (first_failure (original_conditions b i) ≡ None)
+pub key_read : (b : List ℕ) (enc : Encoding) (i originals : ℕ) (span : Span) (len : ℕ) → originals ≡ originals_of b → IsTextSpan b originals i span → first_failure (text_conditions b originals i) ≡ None
+    → len ≡ length (head_of (take (span.end + 1 - span.start) (drop span.start b))) → first_failure (head_conditions enc i (take (span.end + 1 - span.start) (drop span.start b))) ≡ None
+    → (record { start = span.start; end = span.start + len } ≡ head_span b i) × (first_failure (original_conditions b enc i) ≡ None)
 unfolding original_conditions head_span text_span
-key_read b i originals span len e t passed l heads =
+key_read b enc i originals span len e t passed l heads =
     let t' = rw e at t in
     let passed' = rw e at passed in
     let l' = rw t'.closed at l in
     let heads' = rw t'.closed at heads in
     let start : span.start ≡ text_offset b (originals_of b) i = ap (λ (s : Span). s.start) t'.is in
-    (cc, passed_first (text_conditions b (originals_of b) i) (head_conditions (original_of b i)) passed' ∙ heads')
+    (cc, passed_first (text_conditions b (originals_of b) i) (head_conditions enc i (original_of b i)) passed' ∙ heads')
 
-pub row_read : (b : List ℕ) (i : ℕ) (key forms : Span) → key ≡ head_span b i → first_failure (original_conditions b i) ≡ None → IsTextSpan b (translations_of b) i forms → first_failure (translation_conditions b i) ≡ None
-    → IsReadRow b i (record { key = key; forms = forms }) × (first_failure (row_conditions b i) ≡ None)
+pub row_read : (b : List ℕ) (e : Encoding) (i : ℕ) (key forms : Span) → key ≡ head_span b i → first_failure (original_conditions b e i) ≡ None → IsTextSpan b (translations_of b) i forms → first_failure (translation_conditions b e i) ≡ None
+    → IsReadRow b e i (record { key = key; forms = forms }) × (first_failure (row_conditions b e i) ≡ None)
 unfolding row_of row_conditions
-row_read b i key forms k kp f fp =
+row_read b e i key forms k kp f fp =
     let is : record { key = key; forms = forms } ≡ row_of b i = cc in
-    let passed : first_failure (row_conditions b i) ≡ None = passed_first (original_conditions b i) (translation_conditions b i) kp ∙ fp in
-    (record { is = is; fits = rw is (row_fits b i (row_holds b i passed)) }, passed)
+    let passed : first_failure (row_conditions b e i) ≡ None = passed_first (original_conditions b e i) (translation_conditions b e i) kp ∙ fp in
+    (record { is = is; fits = rw is (row_fits b e i (row_holds b e i passed)) }, passed)

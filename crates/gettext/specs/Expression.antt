@@ -5,7 +5,7 @@ use Rattle.gettext.specs.declared.expression.Ast.{Ast}
 use Rattle.gettext.specs.declared.expression.Ast.TheVariants.{N, Integer, Ternary', Op', Not'}
 use Rattle.gettext.specs.declared.expression.Operator.{Operator}
 use Rattle.gettext.specs.declared.expression.Operator.TheVariants.{Equal, NotEqual, GreaterOrEqual, SmallerOrEqual, Greater, Smaller, And, Or, Modulo, Add, Subtract, Multiply, Divide}
-use Rattle.gettext.specs.Messages.{◌>>=◌}
+use Rattle.gettext.specs.Optional.{◌>>=◌}
 
 -- an expression, without where its parts lie in memory
 pub data Expression : Type 0 where

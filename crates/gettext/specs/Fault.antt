@@ -1,7 +1,7 @@
 -- The words of each error.
 use Rattle.std.specs.Prelude.{ℕ, List, codes}
 use Rattle.gettext.specs.declared.error.Error.{Error}
-use Rattle.gettext.specs.declared.error.Error.TheVariants.{BadMagic, DecodingError, Eof, Io, MalformedMetadata, MisplacedMetadata, PluralParsing, UnknownEncoding, TooLong, NoMemory, NotBuilt}
+use Rattle.gettext.specs.declared.error.Error.TheVariants.{BadMagic, DecodingError, Eof, Io, MalformedMetadata, MisplacedMetadata, PluralParsing, UnknownEncoding, TooLong, NoMemory}
 
 abbrev pub words_of : Error → List ℕ
 words_of BadMagic = codes "bad magic number"
@@ -14,4 +14,3 @@ words_of PluralParsing = codes "invalid plural expression"
 words_of UnknownEncoding = codes "unknown encoding specified"
 words_of TooLong = codes "the source has too many bytes"
 words_of NoMemory = codes "out of memory"
-words_of NotBuilt = codes "not supported yet"

@@ -1,8 +1,11 @@
 -- What a catalog of messages means, apart from any file. A text is a list of characters.
-use Rattle.std.specs.Prelude.{◌≡◌, ℕ, Bool, List, [], ◌∷◌, ◌++◌, Option, Some, None, ◌==◌, if◌then◌else◌, nat_eq}
-use Rattle.std.specs.Option.{option_or}
+use Rattle.std.specs.Prelude.{◌≡◌, ℕ, Bool, true, false, not, ◌&&◌, List, [], ◌∷◌, ◌++◌, length, codes, Option, Some, None, ◌==◌, nat_lt, if◌then◌else◌, encode_utf8_all}
+use Rattle.std.specs.Option.{option_or, option_map, option_and_then}
 use Rattle.std.specs.List.{slice_get}
-use Rattle.std.specs.Cmp.Lexicographic.{pointwise}
+use Rattle.gettext.specs.Optional.{◌>>=◌}
+use Rattle.gettext.specs.Texts.{same_text}
+use Rattle.gettext.specs.Expression.{Expression, value}
+use Rattle.gettext.specs.Metadata.{Field, fields_of, value_of, count_in}
 
 -- a message: what it is looked up by, and its forms
 pub record Message : Type 0 where
@@ -12,19 +15,29 @@ pub record Message : Type 0 where
 -- how the number of a form follows from a count
 pub data Rule : Type 0 where
   Default : Rule
+  Expr : Expression → Rule
+  Function : Rule
 
 -- what a file means: its messages in the order of its rows, and its plural rule
 pub record Messages : Type 0 where
   pub rule : Rule
   pub pairs : List Message
 
+-- ---- keys
+
 -- the context, U+0004 and the id as one text, or the id alone (GNU gettext manual, section 10.3)
 abbrev pub key_of : Option (List ℕ) → List ℕ → List ℕ
 key_of None id = id
 key_of (Some context) id = context ++ 4 ∷ id
 
-abbrev pub same_text : List ℕ → List ℕ → Bool
-same_text = pointwise nat_eq
+-- whether the first U+0004 is the last character
+abbrev pub ends_context : List ℕ → Bool
+ends_context [] = false
+ends_context (c ∷ cs) = if c == 4 then length cs == 0 else ends_context cs
+
+-- whether the id of a key isn't empty
+abbrev pub has_id : List ℕ → Bool
+has_id key = not (length key == 0) && not (ends_context key)
 
 -- the last message with the key
 abbrev pub lookup : List Message → List ℕ → Option Message
@@ -36,15 +49,42 @@ pub record StandsFor (kept c : Messages) : Type 0 where
   pub rule : kept.rule ≡ c.rule
   pub lookups : (key : List ℕ) → lookup kept.pairs key ≡ lookup c.pairs key
 
--- what follows a value, where there is one
-infixl 10 ◌>>=◌
-abbrev pub ◌>>=◌ : {A B : Type 0} → Option A → (A → Option B) → Option B
-None >>= f = None
-(Some x) >>= f = f x
+-- ---- forms
 
--- The number of the form for n. The default rule is 0 for 1, and 1 for every other count.
-abbrev pub value_of : Rule → ℕ → Option ℕ
-value_of Default n = Some (if n == 1 then 0 else 1)
+-- The number of the form for n. The default rule is 0 for 1, and 1 for every other count; a forced function answers
+-- by itself.
+abbrev pub value_of_rule : Rule → ℕ → Option ℕ
+value_of_rule Default n = Some (if n == 1 then 0 else 1)
+value_of_rule (Expr e) n = value e n
+value_of_rule Function n = None
+
+-- the message with an empty id, which has the metadata
+abbrev pub header_of : List Message → Option Message
+header_of [] = None
+header_of (m ∷ ms) = option_or (header_of ms) (if has_id m.key then None else Some m)
+
+-- the number of plurals that metadata name
+abbrev pub plurals_among : List Field → Option ℕ
+plurals_among fields = option_and_then count_in (value_of fields (codes "Plural-Forms"))
+
+unfoldable pub plurals_of : List ℕ → Option ℕ
+plurals_of text = fields_of (encode_utf8_all text) >>= plurals_among
+
+abbrev pub plurals_named : Message → Option ℕ
+plurals_named m = slice_get m.forms 0 >>= plurals_of
+
+-- what the numbers of forms are below, where something bounds them: a forced function's aren't bounded
+abbrev pub bound_by : Rule → List Message → Option ℕ
+bound_by Function pairs = None
+bound_by Default pairs = header_of pairs >>= plurals_named
+bound_by (Expr e) pairs = header_of pairs >>= plurals_named
+
+abbrev pub bound : Messages → Option ℕ
+bound c = bound_by c.rule c.pairs
+
+abbrev pub is_within : Option ℕ → ℕ → Bool
+is_within None number = true
+is_within (Some b) number = nat_lt number b
 
 -- the message's form with that number
 unfoldable pub numbered : Messages → List ℕ → ℕ → Option (ℕ × List ℕ)
@@ -53,8 +93,25 @@ numbered c key number = do
   text ← slice_get message.forms number
   Some (number, text)
 
+-- the same, but that the bound leaves out the number
+unfoldable pub numbered_within : Messages → List ℕ → ℕ → Option (ℕ × List ℕ)
+numbered_within c key number = if is_within (bound c) number then numbered c key number else None
+
 -- the form for n of the message with the key, as its number and its text
 unfoldable pub form : Messages → List ℕ → ℕ → Option (ℕ × List ℕ)
 form c key n = do
-  number ← value_of c.rule n
-  numbered c key number
+  number ← value_of_rule c.rule n
+  numbered_within c key number
+
+-- how many forms the message with the key has
+abbrev pub count_of_forms : Messages → List ℕ → Option ℕ
+count_of_forms c key = option_map (λ m. length m.forms) (lookup c.pairs key)
+
+-- what stands for a message that isn't there: the id for 1, else the plural id
+abbrev pub own_words : ℕ → List ℕ → List ℕ → List ℕ
+own_words n id plural = if n == 1 then id else plural
+
+-- the text of a form, or another text where there is none
+abbrev pub text_or : Option (ℕ × List ℕ) → List ℕ → List ℕ
+text_or None other = other
+text_or (Some form) other = form.1

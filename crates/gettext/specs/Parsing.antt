@@ -1,5 +1,5 @@
 -- Reading an expression from left to right, as a function on tokens. Private contracts cite it; the grammar decides.
-use Rattle.std.specs.Prelude.{◌≡◌, ℕ, zero, suc, ◌+◌, max, List, ◌∷◌, Option, Some, None, Result, MatchResult, ◌⊎◌, nat_lt, ◌==◌, if◌then◌else◌}
+use Rattle.std.specs.Prelude.{◌≡◌, ℕ, zero, suc, ◌+◌, max, List, [], ◌∷◌, length, drop, Option, Some, None, Result, MatchResult, ◌⊎◌, nat_lt, ◌==◌, if◌then◌else◌}
 use Rattle.gettext.specs.declared.error.Error.{Error}
 use Rattle.gettext.specs.declared.error.Error.TheVariants.{NoMemory, PluralParsing}
 use Rattle.gettext.specs.declared.expression.Operator.{Operator}
@@ -8,9 +8,11 @@ use Rattle.gettext.specs.declared.expression.tokens.Token.TheVariants as token
 use Rattle.gettext.specs.declared.expression.grammar.Level.{Level}
 use Rattle.gettext.specs.declared.expression.grammar.Part.{Part}
 use Rattle.gettext.specs.declared.expression.grammar.Level.TheVariants as level
-use Rattle.gettext.specs.Messages.{◌>>=◌}
+use Rattle.gettext.specs.Optional.{◌>>=◌}
 use Rattle.gettext.specs.Expression.{tree_of, Expression, Count, Number, Negation, Binary, Conditional}
-use Rattle.gettext.specs.Grammar.{rank, level_of}
+use Rattle.std.specs.Option.{option_map}
+use Rattle.gettext.specs.Grammar.{rank, level_of, height_limit}
+use Rattle.gettext.specs.Tokens.{is_space, token_at}
 
 -- a part, its height, and the tokens behind it
 pub record Found : Type 0 where
@@ -142,6 +144,20 @@ at_level inner budget level.Conditional = choice (inner level.Conditional) (disj
 unfoldable pub parse : ℕ → Level → Parser
 parse zero l ts = None
 parse (suc budget) l ts = at_level (parse budget) (suc budget) l ts
+
+-- the tokens of a text of at most so many characters
+abbrev pub tokens_from : ℕ → List ℕ → Option (List Token)
+tokens_from n [] = Some []
+tokens_from zero (c ∷ text) = None
+tokens_from (suc n) (c ∷ text) =
+    if is_space c then tokens_from n text else (token_at (c ∷ text) >>= λ t. option_map (λ ts. t.0 ∷ ts) (tokens_from n (drop t.1 (c ∷ text))))
+
+abbrev pub whole_tree : Found → Option Expression
+whole_tree p = if length p.rest == 0 then Some p.tree else None
+
+-- the tree of a text, where it is an expression
+unfoldable pub expression_of : List ℕ → Option Expression
+expression_of text = tokens_from (length text) text >>= λ ts. parse height_limit level.Conditional ts >>= whole_tree
 
 -- the levels of binary operators
 abbrev pub IsBinary : Level → Type 0

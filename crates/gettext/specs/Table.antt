@@ -1,5 +1,5 @@
 -- How a catalog keeps its messages: one buffer, and a table of ranges in it, whose keys ascend.
-use Rattle.std.specs.Prelude.{◌≡◌, ℕ, ◌-◌, ◌≤◌, true, List, [], ◌∷◌, Option, Some, None, if◌then◌else◌, length, take, drop, map}
+use Rattle.std.specs.Prelude.{◌≡◌, ℕ, ◌-◌, ◌≤◌, true, false, List, [], ◌∷◌, Option, Some, None, if◌then◌else◌, encode_utf8_all, length, take, drop, map}
 use Rattle.std.specs.Option.{option_or}
 use Rattle.std.specs.List.{list_all, AllByRecursion}
 use Rattle.std.specs.List.Sorted.{IsStrictlySortedBy}
@@ -8,13 +8,20 @@ use Rattle.std.specs.Cmp.Lexicographic.{slice_cmp}
 use Rattle.std.specs.Str.{is_utf8, chars}
 use Rattle.gettext.specs.declared.table.Span.{Span}
 use Rattle.gettext.specs.declared.table.Row.{Row}
-use Rattle.gettext.specs.Messages.{Message, Messages, Default, same_text}
+use Rattle.gettext.specs.Texts.{same_text}
+use Rattle.gettext.specs.Messages.{Message, Messages, lookup, bound, has_id}
+use Rattle.gettext.specs.declared.rule.PluralRule.{PluralRule}
+use Rattle.gettext.specs.Rule.{rule_shown}
 use Rattle.gettext.specs.Mo.{pieces_of}
 
 -- what clauses see of the entries of a catalog
 pub record Held : Type 0 where
-  pub messages : Messages
+  pub rule : PluralRule
+  pub pairs : List Message
   pub buffer : List ℕ
+
+abbrev pub messages_of : Held → Messages
+messages_of h = record { rule = rule_shown h.rule; pairs = h.pairs }
 
 abbrev pub bytes_at : List ℕ → Span → List ℕ
 bytes_at buffer span = take (span.end - span.start) (drop span.start buffer)
@@ -28,8 +35,8 @@ form_bytes buffer row = pieces_of (bytes_at buffer row.forms)
 unfoldable pub message_at : List ℕ → Row → Message
 message_at buffer row = record { key = chars (key_bytes buffer row); forms = map chars (form_bytes buffer row) }
 
-unfoldable pub held : List ℕ → List Row → Held
-held buffer rows = record { messages = record { rule = Default; pairs = map (message_at buffer) rows }; buffer = buffer }
+unfoldable pub held : List ℕ → List Row → PluralRule → Held
+held buffer rows rule = record { rule = rule; pairs = map (message_at buffer) rows; buffer = buffer }
 
 -- the last row with the bytes of a key
 abbrev pub row_for : List ℕ → List Row → List ℕ → Option Row
@@ -50,3 +57,30 @@ pub record IsRowOf (buffer : List ℕ) (row : Row) : Type 0 where
 pub record IsTable (buffer : List ℕ) (rows : List Row) : Type 0 where
   pub rows_fit : AllByRecursion (IsRowOf buffer) rows
   pub keys_ascend : IsStrictlySortedBy (slice_cmp nat_cmp) (map (key_bytes buffer) rows)
+
+-- the table finds what the rows find, in whatever order they are
+pub record Sorts (buffer : List ℕ) (rows sorted : List Row) : Type 0 where
+  pub table : IsTable buffer sorted
+  pub finds : (q : List ℕ) → row_for buffer sorted q ≡ row_for buffer rows q
+
+-- at most one message has an empty id
+abbrev pub HasOneHeader : List Message → Type 0
+HasOneHeader pairs = (k q : List ℕ) (m n : Message) → lookup pairs k ≡ Some m → lookup pairs q ≡ Some n → has_id k ≡ false → has_id q ≡ false → k ≡ q
+
+-- the table, and what bounds the numbers of its forms
+pub record Keeps (buffer : List ℕ) (rows : List Row) (rule : PluralRule) (plurals : Option ℕ) : Type 0 where
+  pub table : IsTable buffer rows
+  pub header : HasOneHeader (map (message_at buffer) rows)
+  pub bounded : plurals ≡ bound (messages_of (held buffer rows rule))
+
+-- where a piece of a text stands, if there is one
+abbrev pub IsPieceSpan : List ℕ → Option (ℕ × ℕ) → Option (List ℕ) → Type 0
+IsPieceSpan text None piece = piece ≡ None
+IsPieceSpan text (Some span) piece = (span.0 ≤ span.1) × (span.1 ≤ length text) × (piece ≡ Some (take (span.1 - span.0) (drop span.0 text)))
+
+-- where the text of a form stands in the buffer, in UTF-8, if there is one
+abbrev pub IsRangeOf : List ℕ → Option (ℕ × ℕ) → Option (ℕ × List ℕ) → Type 0
+IsRangeOf buffer None None = Unit {0}
+IsRangeOf buffer (Some range) (Some form) = (range.0 ≤ range.1) × (range.1 ≤ length buffer) × (take (range.1 - range.0) (drop range.0 buffer) ≡ encode_utf8_all form.1)
+IsRangeOf buffer None (Some form) = ⊥
+IsRangeOf buffer (Some range) None = ⊥

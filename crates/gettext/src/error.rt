@@ -2,8 +2,10 @@
 
 ghost use Rattle.std.specs.Prelude.{◌≡◌};
 ghost use Rattle.gettext.specs.declared.error.Error.TheVariants.{NoMemory};
+ghost use Rattle.gettext.specs.ReadErrors.{error_of};
 ghost use Rattle.gettext.specs.Fault.{words_of};
 
+use reading::ReadError;
 use std::alloc::{AllocError, AllocFailed};
 use thiserror::Error;
 
@@ -40,9 +42,6 @@ pub enum Error {
     /// Memory ran out.
     #[error("out of memory")]
     NoMemory,
-    /// The file has a part that isn't read yet: big-endian numbers, a header or a context.
-    #[error("not supported yet")]
-    NotBuilt,
 }
 
 impl Error {
@@ -61,7 +60,6 @@ impl Error {
             Error::UnknownEncoding => "unknown encoding specified",
             Error::TooLong => "the source has too many bytes",
             Error::NoMemory => "out of memory",
-            Error::NotBuilt => "not supported yet",
         }
     }
 }
@@ -79,5 +77,17 @@ impl<T: Drop> From<AllocFailed<T>> for Error {
 
     fn from(_e: AllocFailed<T>) -> Error {
         Error::NoMemory
+    }
+}
+
+impl From<ReadError> for Error {
+    ghost from_gives = { λ r e. e ≡ error_of r };
+
+    fn from(e: ReadError) -> Error {
+        match e {
+            ReadError::Fault => Error::Io,
+            ReadError::TooLong => Error::TooLong,
+            ReadError::NoMemory => Error::NoMemory,
+        }
     }
 }

@@ -21,12 +21,16 @@ impl PluralFunction {
         PluralFunction { plural }
     }
 
-    fn call(&self, n: u64) -> usize
+    pub(crate) fn call(&self, n: u64) -> usize
         ensures { post self.now.plural n result }
     {
         (self.plural)(n)
     }
 }
+
+/// The plural rule that a file names, or else the default.
+#[derive(Clone, Copy, Debug)]
+pub struct FileRule;
 
 /// A plural rule.
 #[derive(Drop)]

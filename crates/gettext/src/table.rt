@@ -1,15 +1,16 @@
 //! How a catalog keeps its messages: one buffer of bytes, and a table of ranges in it in the order of
 //! the keys' bytes.
 
-ghost use Rattle.std.specs.Prelude.{◌≡◌, ℕ, ◌∷◌, [], length, IfSome};
+ghost use Rattle.std.specs.Prelude.{◌≡◌, ℕ, ◌≤◌, ◌∷◌, [], length, encode_utf8_all, IfSome};
 ghost use Rattle.std.specs.Option.{option_map};
-ghost use Rattle.std.specs.List.{slice_get};
+ghost use Rattle.std.specs.List.{slice_get, position_or_len};
 ghost use Rattle.std.specs.Ordering.{nat_cmp};
 ghost use Rattle.std.specs.Cmp.Lexicographic.{slice_cmp};
 ghost use Rattle.std.specs.Str.{chars, IsUtf8};
-ghost use Rattle.gettext.specs.Messages.{key_of, numbered};
-ghost use Rattle.gettext.specs.Mo.{pieces_of};
+ghost use Rattle.gettext.specs.Messages.{Messages, key_of, is_within, numbered, count_of_forms};
+ghost use Rattle.gettext.specs.Mo.{pieces_of, is_nul};
 
+use crate::rule::PluralRule;
 use std::alloc::Global;
 use std::cmp::Ordering;
 use std::marker::Model;
@@ -29,53 +30,127 @@ pub struct Row {
     pub forms: Span,
 }
 
-/// Messages over one buffer. Their keys differ and ascend.
+/// Messages over one buffer, whose keys differ and ascend, and their plural rule.
 #[derive(Drop)]
 pub struct Table {
     buffer: Vec<u8>,
     rows: Vec<Row>,
+    rule: PluralRule,
+    /// What the numbers of forms are below.
+    plurals: Option<usize>,
 }
 
 impl Model for Table {
-    ghost use Rattle.gettext.specs.Table.{Held, held, IsTable};
+    ghost use Rattle.gettext.specs.contracts.expression.Ast as ast;
+    ghost use Rattle.gettext.specs.Table.{Held, held, Keeps};
+    ghost use Rattle.std.specs.Coded.{codes};
 
     ghost Value = { Held };
 
-    ghost view = { λ a. held a.buffer.items a.rows.items };
+    ghost coded = { Prim.hlevel (codes, ast.the_row.coded) };
 
-    ghost invariant = { λ a. IsTable a.buffer.items a.rows.items };
+    ghost view = { λ a. held a.buffer.items a.rows.items a.rule };
+
+    ghost invariant = { λ a. Keeps a.buffer.items a.rows.items a.rule a.plurals };
 }
 
 impl Table {
-    ghost use Rattle.gettext.specs.Table.{held, IsTable};
+    ghost use Rattle.gettext.specs.declared.rule.PluralRule.TheVariants.{Default};
+    ghost use Rattle.gettext.specs.Messages.{StandsFor, numbered_within, value_of_rule};
+    ghost use Rattle.gettext.specs.Rule.{rule_shown};
+    ghost use Rattle.gettext.specs.Table.{held, messages_of, Keeps, IsRangeOf};
 
     pub fn empty(alloc: Global) -> Table
-        ensures { result ≡ held [] [] }
+        ensures { result ≡ held [] [] Default }
     {
         Table {
             buffer: Vec::new(alloc),
             rows: Vec::new(alloc),
+            rule: PluralRule::Default,
+            plurals: None,
         }
     }
 
-    pub fn new(buffer: Vec<u8>, rows: Vec<Row>) -> Table
-        requires { IsTable buffer.items rows.items }
-        ensures { result ≡ held buffer.items rows.items }
+    pub fn new(buffer: Vec<u8>, rows: Vec<Row>, rule: PluralRule, plurals: Option<usize>) -> Table
+        requires { Keeps buffer.items rows.items rule plurals }
+        ensures { result ≡ held buffer.items rows.items rule }
     {
-        Table { buffer, rows }
+        Table {
+            buffer,
+            rows,
+            rule,
+            plurals,
+        }
+    }
+
+    /// The number of the form for `n`, where no function is forced.
+    pub fn number(&self, n: u64) -> Option<usize>
+        ensures { result ≡ value_of_rule (rule_shown self.now.rule) n }
+    {
+        self.rule.number(n)
+    }
+
+    /// The form with that number, where nothing bounds the numbers below it.
+    pub fn form_within(&self, context: Option<&str>, id: &str, number: usize) -> Option<&str>
+        ensures { (c : Messages) → StandsFor (messages_of self.now) c
+            → option_map (λ text. (number, chars text.now)) result
+            ≡ numbered_within c (key_of (option_map (λ s. chars s.now) context.entry) (chars id.now)) number }
+    {
+        if is_within(self.plurals, number) {
+            self.form(context, id, number)
+        } else {
+            None
+        }
     }
 
     /// The form with that number of the message with that context and id.
     pub fn form(&self, context: Option<&str>, id: &str, number: usize) -> Option<&str>
         ensures { option_map (λ text. (number, chars text.now)) result
-            ≡ numbered self.now.messages (key_of (option_map (λ s. chars s.now) context.entry) (chars id.now)) number }
+            ≡ numbered (messages_of self.now) (key_of (option_map (λ s. chars s.now) context.entry) (chars id.now)) number }
     {
-        let row = find_row(&self.buffer, &self.rows, bytes_in(context), id.as_bytes())?;
+        let row = row_with(&self.buffer, &self.rows, context, id)?;
         nth_form(&self.buffer, row, number)
+    }
+
+    /// How many forms the message with that context and id has.
+    pub fn form_count(&self, context: Option<&str>, id: &str) -> Option<usize>
+        ensures { result ≡ count_of_forms (messages_of self.now) (key_of (option_map (λ s. chars s.now) context.entry) (chars id.now)) }
+    {
+        let row = row_with(&self.buffer, &self.rows, context, id)?;
+        Some(piece_count(bytes_of(&self.buffer, row.forms)))
+    }
+
+    /// Where the form with that number stands in the buffer.
+    pub fn form_range(
+        &self,
+        context: Option<&str>,
+        id: &str,
+        number: usize,
+    ) -> Option<(usize, usize)>
+        ensures { IsRangeOf self.now.buffer result (numbered (messages_of self.now) (key_of (option_map (λ s. chars s.now) context.entry) (chars id.now)) number) }
+    {
+        let row = row_with(&self.buffer, &self.rows, context, id)?;
+        let (start, end) = nth_span(bytes_of(&self.buffer, row.forms), number)?;
+        Some((row.forms.start + start, row.forms.start + end))
+    }
+
+    pub fn buffer(&self) -> &[u8]
+        ensures { result.now ≡ self.now.buffer }
+    {
+        &self.buffer
     }
 }
 
-ghost use Rattle.gettext.specs.Table.{IsTable, IsRowOf, LiesIn, bytes_at, row_for, form_bytes};
+ghost use Rattle.gettext.specs.Table.{IsTable, IsPieceSpan, IsRowOf, LiesIn, bytes_at, row_for, form_bytes};
+
+fn is_within(plurals: Option<usize>, number: usize) -> bool
+    ensures { result ≡ is_within plurals number }
+{
+    match plurals {
+        Some(plurals) => number < plurals,
+        None => true,
+    }
+}
 
 fn bytes_in(text: Option<&str>) -> Option<&[u8]>
     ensures value { option_map (λ bytes. bytes.now) result ≡ option_map (λ s. s.now) text.entry }
@@ -115,6 +190,14 @@ fn compare_rest(rest: &[u8], id: &[u8]) -> Ordering
     }
 }
 
+fn row_with(buffer: &[u8], rows: &[Row], context: Option<&str>, id: &str) -> Option<Row>
+    requires { IsTable buffer.now rows.now }
+    ensures found { result ≡ row_for buffer.now rows.now (encode_utf8_all (key_of (option_map (λ s. chars s.now) context.entry) (chars id.now))) }
+    ensures fits { IfSome result (IsRowOf buffer.now) }
+{
+    find_row(buffer, rows, bytes_in(context), id.as_bytes())
+}
+
 fn find_row(buffer: &[u8], rows: &[Row], context: Option<&[u8]>, id: &[u8]) -> Option<Row>
     requires { IsTable buffer.now rows.now }
     ensures { result ≡ row_for buffer.now rows.now (key_of (option_map (λ s. s.now) context.entry) id.now) }
@@ -142,8 +225,40 @@ fn nth_form(buffer: &[u8], row: Row, number: usize) -> Option<&str>
     Some(unsafe { str::from_utf8_unchecked(form) })
 }
 
+/// What stands between two NULs, or between one and an end of the text, by its number from 0 on.
 fn nth_piece(text: &[u8], number: usize) -> Option<&[u8]>
     ensures { option_map (λ piece. piece.now) result ≡ slice_get (pieces_of text.now) number }
 {
     text.split(|byte| *byte == 0).nth(number)
+}
+
+fn piece_count(text: &[u8]) -> usize
+    ensures { result ≡ length (pieces_of text.now) }
+{
+    text.split(|byte| *byte == 0).count()
+}
+
+/// Where the piece with that number stands.
+fn nth_span(text: &[u8], number: usize) -> Option<(usize, usize)>
+    ensures { IsPieceSpan text.now result (slice_get (pieces_of text.now) number) }
+{
+    let mut start = 0;
+    for _ in 0..number {
+        let len = nul_place(&text[start..]);
+        if start + len == text.len() {
+            return None;
+        }
+        start += len + 1;
+    }
+    Some((start, start + nul_place(&text[start..])))
+}
+
+/// The place of the first NUL, or the length where there is none.
+pub fn nul_place(text: &[u8]) -> usize
+    ensures value { result ≡ position_or_len is_nul text.now }
+    ensures inside { result ≤ length text.now }
+{
+    text.iter()
+        .position(|byte| *byte == 0)
+        .unwrap_or(text.len())
 }

@@ -4,7 +4,7 @@ use Rattle.std.proofs.lemmas.Slice.Eq.{bytes_eq-Decides}
 use Rattle.std.proofs.lemmas.Str.{encodes-chars}
 use Rattle.std.specs.List.{slice_get}
 use Rattle.std.specs.Str.{bytes_eq, chars, IsUtf8}
-use Rattle.gettext.specs.Messages.{Messages, StandsFor, form, numbered, value_of, same_text, ◌>>=◌}
+use Rattle.gettext.specs.Texts.{same_text}
 use lib.Utf8.{encodes}
 
 -- two tests of one fact agree
@@ -20,13 +20,6 @@ bytes_eq-chars a b ua ub =
     agree (bytes_eq a b) (same_text (chars a) (chars b))
     (λ e. (bytes_eq-Decides (chars a) (chars b)).1 (ap chars ((bytes_eq-Decides a b).0 e)))
     (λ e. (bytes_eq-Decides a b).1 (sym (encodes-chars a ua) ∙ ap encodes ((bytes_eq-Decides (chars a) (chars b)).0 e) ∙ encodes-chars b ub))
-
--- what stands for messages finds their forms
-pub form-StandsFor : (kept c : Messages) (key : List ℕ) (n : ℕ) → StandsFor kept c → form kept key n ≡ form c key n
-unfolding form numbered
-form-StandsFor kept c key n stands =
-    ap (λ rule. value_of rule n >>= λ number. numbered kept key number) stands.rule
-    ∙ ap (λ found. value_of c.rule n >>= λ number. found >>= λ message. slice_get message.forms number >>= λ text. Some (number, text)) (stands.lookups key)
 
 -- a list of one at most, where its first is there
 pub only_one : {A : Type 0} (xs : List A) (x : A) → length xs ≤ 1 → slice_get xs 0 ≡ Some x → xs ≡ x ∷ []

@@ -1,13 +1,15 @@
 -- The walk over one bundle at most.
 use Rattle.std.proofs.Common.{◌≡◌, ℕ, List, [], ◌∷◌, map, Bool, true, false, refl, sym, ap, ◌∙◌, cond, Option, Some, None}
 use Rattle.std.specs.Option.{option_or}
-use Rattle.gettext.specs.Messages.{form, key_of, same_text}
+use Rattle.gettext.specs.Messages.{form, key_of}
+use Rattle.gettext.specs.Texts.{same_text}
 use Rattle.localise.specs.declared.bundle.BundleText.{BundleText}
 use Rattle.localise.specs.declared.request.Request.{Request}
 use Rattle.localise.specs.Bundles.{KeepsMeaning, Localises}
 use Rattle.localise.specs.Chosen.{unknown, walk_of, Translation, form_in, numbered_from, translation_at, first_of, chosen, localised_by}
 use Rattle.localise.specs.Meaning.{Meaning}
-use Rattle.localise.proofs.Same.{form-StandsFor}
+use Rattle.gettext.specs.Options.{plain_options}
+use Rattle.gettext.proofs.Alike.{form_alike}
 
 along : Bool → List Meaning → Request → Option Translation
 along b bundles q = first_of (map (translation_at 0 bundles q) (cond b (unknown ∷ []) (q.tag ∷ unknown ∷ [])))
@@ -60,7 +62,7 @@ form_in-kept : (text : BundleText) (kept : Meaning) (k : KeepsMeaning text kept)
     → form_in kept q locale ≡ form_in k.meaning q locale
 form_in-kept text kept k q locale =
     ap (λ l. cond (same_text l locale) (form kept.messages (key_of q.context q.singular) q.count) None) (k.locale ∙ sym k.means.locale)
-    ∙ ap (λ f. cond (same_text k.meaning.locale locale) f None) (form-StandsFor kept.messages k.meaning.messages (key_of q.context q.singular) q.count k.stands)
+    ∙ ap (λ f. cond (same_text k.meaning.locale locale) f None) (form_alike text.mo plain_options k.meaning.messages kept.messages k.means.messages k.stands (key_of q.context q.singular) q.count)
 
 chosen-along : (kept meaning : Meaning) (q : Request) → ((locale : List ℕ) → form_in kept q locale ≡ form_in meaning q locale)
     → (locales : List (List ℕ)) → first_of (map (translation_at 0 (kept ∷ []) q) locales) ≡ first_of (map (translation_at 0 (meaning ∷ []) q) locales)

@@ -3,6 +3,7 @@ use Rattle.std.specs.Prelude.{◌≡◌, ℕ, suc, List, [], ◌∷◌, Option, 
 use Rattle.gettext.specs.declared.error.Error.{Error}
 use Rattle.gettext.specs.Messages.{StandsFor}
 use Rattle.gettext.specs.Mo.{entries, mo_fault}
+use Rattle.gettext.specs.Options.{plain_options}
 use Rattle.localise.specs.Meaning.{Meaning}
 use Rattle.localise.specs.declared.bundle.BundleText.{BundleText}
 use Rattle.localise.specs.declared.request.Request.{Request}
@@ -14,7 +15,7 @@ use Rattle.localise.specs.Chosen.{localised}
 -- its locale is its tag, and its messages are those of its file
 pub record Means (text : BundleText) (b : Meaning) : Type 0 where
   pub locale : b.locale ≡ text.tag
-  pub messages : entries text.mo b.messages
+  pub messages : entries text.mo plain_options b.messages
 
 -- the bundles, each with its meaning
 abbrev pub AllMean : List BundleText → List Meaning → Type 0
@@ -43,7 +44,7 @@ or_else_refusal i None next = next
 -- the first bundle that is faulty, and what is wrong with it
 abbrev pub refusal_from : ℕ → List BundleText → Option RenderError
 refusal_from i [] = None
-refusal_from i (text ∷ texts) = or_else_refusal i (mo_fault text.mo) (refusal_from (suc i) texts)
+refusal_from i (text ∷ texts) = or_else_refusal i (mo_fault text.mo plain_options) (refusal_from (suc i) texts)
 
 abbrev pub refusal : List BundleText → Option RenderError
 refusal = refusal_from 0

@@ -1,5 +1,6 @@
 pub mod Bundles
 pub mod Chosen
+pub mod Kept
 pub mod Localised
 pub mod Meaning
 pub mod Plain

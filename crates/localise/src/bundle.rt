@@ -2,9 +2,11 @@ ghost use Rattle.std.specs.Prelude.{◌≡◌, ◌≢◌, Some, None, IfOk, IfEr
 ghost use Rattle.std.specs.Option.{option_map};
 ghost use Rattle.std.specs.Str.{chars};
 ghost use Rattle.gettext.specs.Mo.{mo_fault};
-ghost use Rattle.gettext.specs.Messages.{same_text};
+ghost use Rattle.gettext.specs.Texts.{same_text};
+ghost use Rattle.gettext.specs.Options.{plain_options};
 ghost use Rattle.localise.specs.Bundles.{KeepsMeaning};
 ghost use Rattle.localise.specs.Chosen.{form_in};
+ghost use Rattle.localise.specs.Kept.{meaning_of};
 
 use crate::Request;
 use gettext::{Catalog, Error, Form};
@@ -63,20 +65,12 @@ pub(crate) struct Bundle {
     catalog: Catalog,
 }
 
-impl Model for Bundle {
-    ghost use Rattle.localise.specs.Meaning.{Meaning};
-
-    ghost Value = { Meaning };
-
-    ghost view = { λ b. record { locale = b.locale; messages = b.catalog.entries.messages } };
-}
-
 impl Bundle {
     /// Reads the catalog of a bundle.
     pub(crate) fn read(alloc: Global, text: &BundleText) -> Result<Bundle, Error>
-        ensures ok { IfOk result (KeepsMeaning text.now) }
-        ensures accepted { IfOk result (λ _. mo_fault text.now.mo ≡ None) }
-        ensures err { IfErr result (λ e. e ≢ Error.NoMemory → mo_fault text.now.mo ≡ Some e) }
+        ensures ok { IfOk result (λ bundle. KeepsMeaning text.now (meaning_of bundle)) }
+        ensures accepted { IfOk result (λ _. mo_fault text.now.mo plain_options ≡ None) }
+        ensures err { IfErr result (λ e. e ≢ Error.NoMemory → mo_fault text.now.mo plain_options ≡ Some e) }
     {
         let catalog = Catalog::parse_bytes(alloc, text.mo.as_slice())?;
         let locale = OwnedText::new(alloc, text.tag.as_str()).map_err(|_| Error::NoMemory)?;
@@ -85,13 +79,15 @@ impl Bundle {
 
     /// The form that the bundle gives a request in a locale: none where the locale isn't its own.
     pub(crate) fn form_in(&self, locale: &str, request: &Request) -> Option<Form<'_>>
-        requires { request.now.context ≡ None }
         ensures { option_map (λ f. (f.number, chars f.text.now)) result
-            ≡ form_in self.now request.now (chars locale.now) }
+            ≡ form_in (meaning_of self.now) request.now (chars locale.now) }
     {
         if is_same(self.locale.as_str(), locale) {
-            self.catalog
-                .find(None, request.singular.as_str(), request.count)
+            self.catalog.find(
+                request.context_text(),
+                request.singular.as_str(),
+                request.count,
+            )
         } else {
             None
         }

@@ -3,13 +3,13 @@ ghost use Rattle.std.specs.Option.{option_map};
 ghost use Rattle.std.specs.Str.{chars};
 ghost use Rattle.localise.specs.Bundles.{Localises, refusal};
 ghost use Rattle.localise.specs.Chosen.{localised, chosen, numbered_from};
+ghost use Rattle.localise.specs.Kept.{meanings};
 ghost use Rattle.localise.specs.Plain.{IsPlain};
 
 use crate::bundle::{Bundle, is_same};
 use crate::{BundleCause, BundleText, Found, RenderError, Request};
 use gettext::{Error, Form};
 use std::alloc::Global;
-use std::marker::Model;
 
 /// The locale in which nothing is known of the language.
 const UNKNOWN: &str = "und";
@@ -20,21 +20,11 @@ pub struct Localiser {
     bundle: Option<Bundle>,
 }
 
-impl Model for Localiser {
-    ghost use Rattle.std.specs.Prelude.{List};
-    ghost use Rattle.std.specs.Option.{option_to_list};
-    ghost use Rattle.localise.specs.declared.bundle.Bundle.{Bundle};
-
-    ghost Value = { List Bundle };
-
-    ghost view = { λ l. option_to_list l.bundle };
-}
-
 impl Localiser {
     /// Reads the bundles' catalogs.
     pub fn try_new(alloc: Global, bundles: &[BundleText]) -> Result<Localiser, RenderError>
         requires { length bundles.now ≤ 1 }
-        ensures ok { IfOk result (Localises bundles.now) }
+        ensures ok { IfOk result (λ localiser. Localises bundles.now (meanings localiser)) }
         ensures accepted { IfOk result (λ _. refusal bundles.now ≡ None) }
         ensures err { IfErr result (λ e. e ≢ RenderError.NoMemory → refusal bundles.now ≡ Some e) }
     {
@@ -53,7 +43,7 @@ impl Localiser {
     /// What the request is given, without taking memory.
     pub fn find<'a>(&'a self, request: &'a Request) -> Found<'a>
         requires { IsPlain request.now }
-        ensures { result ≡ localised self.now request.now }
+        ensures { result ≡ localised (meanings self.now) request.now }
     {
         match self.translation(request) {
             Some(form) => Found::of_form(0, form),
@@ -63,8 +53,7 @@ impl Localiser {
 
     /// The form that the first locale of the walk gives that gives one.
     fn translation(&self, request: &Request) -> Option<Form<'_>>
-        requires { request.now.context ≡ None }
-        ensures { numbered_from 0 (option_map (λ f. (f.number, chars f.text.now)) result) ≡ chosen self.now request.now }
+        ensures { numbered_from 0 (option_map (λ f. (f.number, chars f.text.now)) result) ≡ chosen (meanings self.now) request.now }
     {
         let Some(bundle) = &self.bundle else {
             return None;

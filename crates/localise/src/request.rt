@@ -1,3 +1,7 @@
+ghost use Rattle.std.specs.Prelude.{◌≡◌};
+ghost use Rattle.std.specs.Option.{option_map};
+ghost use Rattle.std.specs.Str.{chars};
+
 use writeable::{OwnedText, TextList};
 
 /// What is asked for: a message, in a language, for a count.
@@ -17,4 +21,13 @@ pub struct Request {
     pub placeholder: OwnedText,
     /// The items to be joined.
     pub items: TextList,
+}
+
+impl Request {
+    /// The context, where there is one.
+    pub(crate) fn context_text(&self) -> Option<&str>
+        ensures { option_map (λ text. chars text.now) result ≡ self.now.context }
+    {
+        self.context.as_ref().map(|context| context.as_str())
+    }
 }

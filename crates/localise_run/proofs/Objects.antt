@@ -1,5 +1,6 @@
 -- The members of an object beside the map that holds them.
-use Rattle.std.proofs.Common.{◌≡◌, ℕ, List, [], ◌∷◌, length, Option, Some, None, option_map, String, Global, Ordering, Less, Equal, Greater, is_eq, string_bytes, nat_cmp, Bool, true, false, true≢false, IsTrue, ◌↔◌, arith, option_and_then, ◌++◌, codes, cond, refl, sym, ap, ◌∙◌, bytes_eq}
+use Rattle.std.proofs.Common.{◌≡◌, ℕ, List, [], ◌∷◌, length, ◌<◌, ◌≤◌, Option, Some, None, option_map, String, Global, Ordering, Less, Equal, Greater, is_eq, string_bytes, nat_cmp, Bool, true, false, true≢false, IsTrue, ◌↔◌, arith, option_and_then, ◌++◌, codes, cond, refl, sym, ap, ◌∙◌, bytes_eq}
+use Rattle.std.proofs.lemmas.Bool.{lt-leb}
 use Rattle.std.proofs.lemmas.Slice.Eq.{bytes_eq-Decides}
 use Rattle.std.specs.Ordering.{match_ordering}
 use Rattle.std.proofs.lemmas.Map.Text.{is_eq-slice_cmp}
@@ -8,9 +9,10 @@ use Rattle.std.specs.Map.{remove_entry}
 use Rattle.std.specs.BTreeMap.{is_at}
 use Rattle.serde_json.specs.Data.{Data, Members, no_members, member}
 use Rattle.serde_json.specs.Find.{get_member}
-use Rattle.serde_json.specs.View.{view, members_view}
+use Rattle.serde_json.specs.View.{view, members_view, items_view}
 use Rattle.serde_json.specs.declared.value.Value.{Value}
-use Rattle.localise_run.specs.Document.{without, is_none_left, member_of, tag_of, text_of, count_of, request_from, request_in, only}
+use Rattle.localise.specs.declared.bundle.BundleText.{BundleText}
+use Rattle.localise_run.specs.Document.{without, is_none_left, has_only, member_of, optional, optional_member_of, tag_of, text_of, count_of, request_from, request_in, only, bundle_of, checked, each_of, is_few}
 
 abbrev Entry : Type 0
 Entry = String Global × Value
@@ -63,31 +65,40 @@ pub member_of-without : {A : Type 0} (f : Data → Option A) (gone name : List �
     → member_of f name (without gone ms) ≡ member_of f name ms
 member_of-without f gone name ms other = ap (λ d. option_and_then f d) (get_member-without gone name ms other)
 
+stays : (gone name : List ℕ) (ms left : Members) → bytes_eq name gone ≡ false → left ≡ without gone ms → get_member name left ≡ get_member name ms
+stays gone name ms left other is = ap (get_member name) is ∙ get_member-without gone name ms other
+
+same_request : (t t' : Option (List ℕ)) (x x' : Option (Option (List ℕ))) (s s' p p' : Option (List ℕ)) (n n' : Option ℕ)
+    → t ≡ t' → x ≡ x' → s ≡ s' → p ≡ p' → n ≡ n' → request_from t x s p n ≡ request_from t' x' s' p' n'
+same_request t t' x x' s s' p p' n n' e1 e2 e3 e4 e5 = cc
+
 -- a request's members, taken one after another
-pub request_taken : (ms m1 m2 m3 m4 : Members) (tag singular plural : Option (List ℕ)) (count : Option ℕ)
-    → m1 ≡ without (codes "tag") ms → m2 ≡ without (codes "singular") m1 → m3 ≡ without (codes "plural") m2 → m4 ≡ without (codes "count") m3
-    → tag ≡ member_of tag_of (codes "tag") ms → singular ≡ member_of text_of (codes "singular") m1
-    → plural ≡ member_of text_of (codes "plural") m2 → count ≡ member_of count_of (codes "count") m3
-    → cond (is_none_left m4) (request_from tag singular plural count) None ≡ request_in ms
-request_taken ms m1 m2 m3 m4 tag singular plural count e1 e2 e3 e4 t s p n =
-    let second : m2 ≡ without (codes "singular") (without (codes "tag") ms) = e2 ∙ ap (without (codes "singular")) e1 in
-    let third : m3 ≡ without (codes "plural") (without (codes "singular") (without (codes "tag") ms)) = e3 ∙ ap (without (codes "plural")) second in
-    let left : m4 ≡ without (codes "count") (without (codes "plural") (without (codes "singular") (without (codes "tag") ms))) = e4 ∙ ap (without (codes "count")) third in
+pub request_taken : (ms m1 m2 m3 m4 m5 : Members) (tag : Option (List ℕ)) (context : Option (Option (List ℕ))) (singular plural : Option (List ℕ)) (count : Option ℕ)
+    → m1 ≡ without (codes "tag") ms → m2 ≡ without (codes "context") m1 → m3 ≡ without (codes "singular") m2
+    → m4 ≡ without (codes "plural") m3 → m5 ≡ without (codes "count") m4
+    → tag ≡ member_of tag_of (codes "tag") ms → context ≡ optional_member_of text_of (codes "context") m1
+    → singular ≡ member_of text_of (codes "singular") m2 → plural ≡ member_of text_of (codes "plural") m3
+    → count ≡ member_of count_of (codes "count") m4
+    → cond (is_none_left m5) (request_from tag context singular plural count) None ≡ request_in ms
+request_taken ms m1 m2 m3 m4 m5 tag context singular plural count e1 e2 e3 e4 e5 t x s p n =
+    let left : m5 ≡ without (codes "count") (without (codes "plural") (without (codes "singular") (without (codes "context") (without (codes "tag") ms)))) =
+    e5 ∙ ap (without (codes "count")) (e4 ∙ ap (without (codes "plural")) (e3 ∙ ap (without (codes "singular")) (e2 ∙ ap (without (codes "context")) e1))) in
+    let x' : context ≡ optional_member_of text_of (codes "context") ms =
+    x ∙ ap (λ d. optional text_of d) (stays (codes "tag") (codes "context") ms m1 refl e1) in
     let s' : singular ≡ member_of text_of (codes "singular") ms =
-    s ∙ ap (member_of text_of (codes "singular")) e1 ∙ member_of-without text_of (codes "tag") (codes "singular") ms refl in
+    s ∙ ap (λ d. option_and_then text_of d)
+    (stays (codes "context") (codes "singular") m1 m2 refl e2 ∙ stays (codes "tag") (codes "singular") ms m1 refl e1) in
     let p' : plural ≡ member_of text_of (codes "plural") ms =
-    p ∙ ap (member_of text_of (codes "plural")) second ∙ member_of-without text_of (codes "singular") (codes "plural") (without (codes "tag") ms) refl
-    ∙ member_of-without text_of (codes "tag") (codes "plural") ms refl in
+    p ∙ ap (λ d. option_and_then text_of d)
+    (stays (codes "singular") (codes "plural") m2 m3 refl e3 ∙ stays (codes "context") (codes "plural") m1 m2 refl e2
+    ∙ stays (codes "tag") (codes "plural") ms m1 refl e1) in
     let n' : count ≡ member_of count_of (codes "count") ms =
-    n ∙ ap (member_of count_of (codes "count")) third
-    ∙ member_of-without count_of (codes "plural") (codes "count") (without (codes "singular") (without (codes "tag") ms)) refl
-    ∙ member_of-without count_of (codes "singular") (codes "count") (without (codes "tag") ms) refl
-    ∙ member_of-without count_of (codes "tag") (codes "count") ms refl in
-    ap (λ m. cond (is_none_left m) (request_from tag singular plural count) None) left
-    ∙ ap (λ r. cond (is_none_left (without (codes "count") (without (codes "plural") (without (codes "singular") (without (codes "tag") ms))))) r None)
-    (ap (λ o. request_from o singular plural count) t ∙ ap (λ o. request_from (member_of tag_of (codes "tag") ms) o plural count) s'
-    ∙ ap (λ o. request_from (member_of tag_of (codes "tag") ms) (member_of text_of (codes "singular") ms) o count) p'
-    ∙ ap (λ o. request_from (member_of tag_of (codes "tag") ms) (member_of text_of (codes "singular") ms) (member_of text_of (codes "plural") ms) o) n')
+    n ∙ ap (λ d. option_and_then count_of d)
+    (stays (codes "plural") (codes "count") m3 m4 refl e4 ∙ stays (codes "singular") (codes "count") m2 m3 refl e3
+    ∙ stays (codes "context") (codes "count") m1 m2 refl e2 ∙ stays (codes "tag") (codes "count") ms m1 refl e1) in
+    ap (λ m. cond (is_none_left m) (request_from tag context singular plural count) None) left
+    ∙ ap (λ r. cond (has_only (codes "tag" ∷ codes "context" ∷ codes "singular" ∷ codes "plural" ∷ codes "count" ∷ []) ms) r None)
+    (same_request tag _ context _ singular _ plural _ count _ t x' s' p' n')
 
 -- an object's two members, taken one after the other
 pub two_taken : {A B C : Type 0} (g : Data → Option B) (combine : Option A → Option B → Option C) (first second : List ℕ) (ms m1 m2 : Members)
@@ -105,3 +116,31 @@ two_taken {C} g combine first second ms m1 m2 a a' b other e1 e2 same taken left
 -- these, and then what is there
 abbrev pub in_front : {A : Type 0} → List A → Option (List A) → Option (List A)
 in_front front read = option_map (λ rest. front ++ rest) read
+
+-- ---- the number of bundles
+
+two_or_more : (o p : Option BundleText) (rest : Option (List BundleText))
+    → None ≡ checked is_few (option_and_then (λ a. option_map (λ r. a ∷ r) (option_and_then (λ b. option_map (λ r. b ∷ r) rest) p)) o)
+two_or_more None p rest = refl
+two_or_more (Some a) None rest = refl
+two_or_more (Some a) (Some b) None = refl
+two_or_more (Some a) (Some b) (Some more) =
+    let many : 1 < length (a ∷ b ∷ more) = omega arith in
+    ap (λ t. cond t (Some (a ∷ b ∷ more)) None) (sym (lt-leb (length (a ∷ b ∷ more)) 1 many))
+
+-- more than one value is not few bundles
+pub not_few : (values : List Value) → 1 < length values → None ≡ checked is_few (each_of bundle_of (items_view values))
+not_few [] many = absurd (omega arith)
+not_few (v ∷ []) many = absurd (omega arith)
+not_few (v ∷ w ∷ vs) many = two_or_more (bundle_of (view v)) (bundle_of (view w)) (each_of bundle_of (items_view vs))
+
+one_or_none : (o : Option BundleText)
+    → option_and_then (λ a. option_map (λ r. a ∷ r) (Some [])) o ≡ checked is_few (option_and_then (λ a. option_map (λ r. a ∷ r) (Some [])) o)
+one_or_none None = refl
+one_or_none (Some a) = refl
+
+-- one value at most is few bundles
+pub few : (values : List Value) → length values ≤ 1 → each_of bundle_of (items_view values) ≡ checked is_few (each_of bundle_of (items_view values))
+few [] h = refl
+few (v ∷ []) h = one_or_none (bundle_of (view v))
+few (v ∷ w ∷ vs) h = absurd (omega arith)

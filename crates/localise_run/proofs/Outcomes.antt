@@ -1,14 +1,16 @@
 -- From how the steps of a run end to what holds under each answer.
 use Rattle.std.proofs.Common.{◌≡◌, ℕ, ◌≤◌, ◌<◌, ◌⊎◌, inl, inr, List, ◌++◌, length, Bool, true, refl, sym, ap, ◌∙◌, subst, cond, Option, Some, None, IfSome}
 use Rattle.std.proofs.lemmas.Bool.{le-leb, lt-leb}
+use Rattle.reading.specs.Reading.{most_bytes, IsReadError}
+use Rattle.reading.specs.declared.error.ReadError.{ReadError}
+use Rattle.reading.specs.declared.error.ReadError.TheVariants as unread
 use Rattle.writeable.specs.Sink.{TookPrefix, Rose}
 use Rattle.localise.specs.Bundles.{refusal}
 use Rattle.localise_run.specs.declared.status.Status.{Status}
 use Rattle.localise_run.specs.declared.status.Status.TheVariants.{Done, BadWords, NotJson, Bundle, ReadFault, WriteFault, NoMemory, TooLong, NotBuilt}
 use Rattle.localise_run.specs.Contents.{Contents}
 use Rattle.localise_run.specs.Document.{json_of}
-use Rattle.localise_run.specs.Reading.{IsReadError}
-use Rattle.localise_run.specs.Run.{most_bytes, answer_of, answer_to_value, answer_to_contents, refused_or_done, IsDocument, Renders, Appended, Outcome, FailsToRender, IsFailure, IsRefusal, ComesAtEnd}
+use Rattle.localise_run.specs.Run.{read_answer, answer_of, answer_to_value, answer_to_contents, refused_or_done, IsDocument, Renders, Appended, Outcome, FailsToRender, IsFailure, IsRefusal, ComesAtEnd}
 
 -- what holds of the bytes that were read holds of those that are told
 of_told : (P : List ℕ → Type 0) (left : Option (List ℕ)) (bytes : List ℕ) → IfSome left (λ told. bytes ≡ told) → P bytes → IfSome left P
@@ -30,18 +32,12 @@ pub renders_answer : (bytes : List ℕ) (P : List ℕ → Type 0) → Renders by
 renders_answer bytes P r = document_answer bytes r.contents r.within r.document r.accepted
 
 -- reading failed, and nothing was written
-pub read_outcome : {O : Type 0} (left : Option (List ℕ)) (rb rn : ℕ) (ended : Bool) (took : O → List ℕ → O → Type 0) (wb wn : ℕ) (old : O) (e : Status)
-    → IsReadError most_bytes rb rn left e → Outcome left rb rn ended took wb wn old old e
-read_outcome left rb rn ended took wb wn old ReadFault is = (is, refl)
-read_outcome None rb rn ended took wb wn old TooLong is = (refl, tt)
-read_outcome (Some told) rb rn ended took wb wn old TooLong is = (refl, too_long_answer told is)
-read_outcome left rb rn ended took wb wn old NoMemory is = inl refl
-read_outcome left rb rn ended took wb wn old Done is = absurd is
-read_outcome left rb rn ended took wb wn old BadWords is = absurd is
-read_outcome left rb rn ended took wb wn old NotJson is = absurd is
-read_outcome left rb rn ended took wb wn old (Bundle i cause) is = absurd is
-read_outcome left rb rn ended took wb wn old WriteFault is = absurd is
-read_outcome left rb rn ended took wb wn old NotBuilt is = absurd is
+pub read_outcome : {O : Type 0} (left : Option (List ℕ)) (rb rn : ℕ) (ended : Bool) (took : O → List ℕ → O → Type 0) (wb wn : ℕ) (old : O) (e : ReadError)
+    → IsReadError most_bytes rb rn left e → Outcome left rb rn ended took wb wn old old (read_answer e)
+read_outcome left rb rn ended took wb wn old unread.Fault is = (is, refl)
+read_outcome None rb rn ended took wb wn old unread.TooLong is = (refl, tt)
+read_outcome (Some told) rb rn ended took wb wn old unread.TooLong is = (refl, too_long_answer told is)
+read_outcome left rb rn ended took wb wn old unread.NoMemory is = inl refl
 
 -- all bytes were read, and rendering failed
 pub fail_outcome : {O : Type 0} (left : Option (List ℕ)) (rb rn : ℕ) (ended : Bool) (took : O → List ℕ → O → Type 0) (wb wn : ℕ) (old new : O) (bytes : List ℕ) (e : Status)

@@ -1,4 +1,4 @@
--- The requests of a document that is understood are plain.
+-- The requests of a document are plain.
 use Rattle.std.proofs.Common.{◌≡◌, ℕ, ◌≤◌, List, [], ◌∷◌, length, Bool, true, false, refl, sym, ap, ◌∙◌, subst, codes, cond, Option, Some, None, option_and_then, option_map}
 use Rattle.std.proofs.lemmas.Bool.{leb-true}
 use Rattle.localise.specs.declared.bundle.BundleText.{BundleText}
@@ -8,7 +8,7 @@ use Rattle.localise.specs.Plain.{is_plain_tag, IsPlain}
 use Rattle.serde_json.specs.Data.{Data, Items, no_items, item, Members}
 use Rattle.serde_json.specs.Find.{as_object, as_array, get_member}
 use Rattle.localise_run.specs.Contents.{Contents}
-use Rattle.localise_run.specs.Document.{checked, tag_of, text_of, count_of, member_of, each_of, list_of, has_only, request_from, request_in, request_of, plain_request, document_in, document_of, document_from, bundle_of, is_few}
+use Rattle.localise_run.specs.Document.{checked, tag_of, text_of, count_of, member_of, optional_member_of, each_of, list_of, has_only, request_from, request_in, request_of, plain_request, document_in, document_of, document_from, bundle_of, is_few}
 
 none_is_some : {A : Type 0} {P : Type 0} (a : A) → None ≡ Some a → P
 none_is_some a e = absurd (let apart : ⊥ = cc in apart)
@@ -30,23 +30,24 @@ tag_is : (d : Option Data) (tag : List ℕ) → option_and_then tag_of d ≡ Som
 tag_is None tag there = none_is_some tag there
 tag_is (Some d) tag there = checked_is is_plain_tag (text_of d) tag there
 
-parts_plain : (tag singular plural : Option (List ℕ)) (count : Option ℕ) (q : Request)
+parts_plain : (tag : Option (List ℕ)) (context : Option (Option (List ℕ))) (singular plural : Option (List ℕ)) (count : Option ℕ) (q : Request)
     → ((t : List ℕ) → tag ≡ Some t → is_plain_tag t ≡ true)
-    → request_from tag singular plural count ≡ Some q → IsPlain q
-parts_plain (Some t) (Some s) (Some p) (Some n) q h there =
-    let same : plain_request t s p n ≡ q = cc in
-    subst IsPlain same (record { tag = h t refl; context = refl; placeholder = refl; items = refl })
-parts_plain (Some t) (Some s) (Some p) None q h there = none_is_some q there
-parts_plain (Some t) (Some s) None count q h there = none_is_some q there
-parts_plain (Some t) None plural count q h there = none_is_some q there
-parts_plain None singular plural count q h there = none_is_some q there
+    → request_from tag context singular plural count ≡ Some q → IsPlain q
+parts_plain (Some t) (Some x) (Some s) (Some p) (Some n) q h there =
+    let same : plain_request t x s p n ≡ q = cc in
+    subst IsPlain same (record { tag = h t refl; placeholder = refl; items = refl })
+parts_plain (Some t) (Some x) (Some s) (Some p) None q h there = none_is_some q there
+parts_plain (Some t) (Some x) (Some s) None count q h there = none_is_some q there
+parts_plain (Some t) (Some x) None plural count q h there = none_is_some q there
+parts_plain (Some t) None singular plural count q h there = none_is_some q there
+parts_plain None context singular plural count q h there = none_is_some q there
 
 members_plain : (ms : Members) (q : Request) → request_in ms ≡ Some q → IsPlain q
 members_plain ms q there =
-    parts_plain (member_of tag_of (codes "tag") ms) (member_of text_of (codes "singular") ms)
-    (member_of text_of (codes "plural") ms) (member_of count_of (codes "count") ms) q
+    parts_plain (member_of tag_of (codes "tag") ms) (optional_member_of text_of (codes "context") ms)
+    (member_of text_of (codes "singular") ms) (member_of text_of (codes "plural") ms) (member_of count_of (codes "count") ms) q
     (λ t e. tag_is (get_member (codes "tag") ms) t e)
-    (only_is (has_only (codes "tag" ∷ codes "singular" ∷ codes "plural" ∷ codes "count" ∷ []) ms) _ q there)
+    (only_is (has_only (codes "tag" ∷ codes "context" ∷ codes "singular" ∷ codes "plural" ∷ codes "count" ∷ []) ms) _ q there)
 
 object_plain : (o : Option Members) (q : Request) → option_and_then request_in o ≡ Some q → IsPlain q
 object_plain None q there = none_is_some q there

@@ -46,6 +46,14 @@ list_of f d = option_and_then (each_of f) (as_array d)
 abbrev pub member_of : {A : Type 0} → (Data → Option A) → List ℕ → Members → Option A
 member_of f name ms = option_and_then f (get_member name ms)
 
+abbrev pub optional : {A : Type 0} → (Data → Option A) → Option Data → Option (Option A)
+optional f None = Some None
+optional f (Some d) = option_map (λ a. Some a) (f d)
+
+-- the same of a member that may be left out: Some None where it isn't there
+abbrev pub optional_member_of : {A : Type 0} → (Data → Option A) → List ℕ → Members → Option (Option A)
+optional_member_of f name ms = optional f (get_member name ms)
+
 -- the members but that of a name, which is there once at most
 abbrev pub without : List ℕ → Members → Members
 without name no_members = no_members
@@ -82,20 +90,23 @@ bundle_of d = option_and_then bundle_in (as_object d)
 
 -- ---- requests
 
-abbrev pub plain_request : List ℕ → List ℕ → List ℕ → ℕ → Request
-plain_request tag singular plural count = record { tag = tag; context = None; singular = singular; plural = plural; count = count; placeholder = []; items = [] }
+abbrev pub plain_request : List ℕ → Option (List ℕ) → List ℕ → List ℕ → ℕ → Request
+plain_request tag context singular plural count =
+    record { tag = tag; context = context; singular = singular; plural = plural; count = count; placeholder = []; items = [] }
 
-abbrev pub request_from : Option (List ℕ) → Option (List ℕ) → Option (List ℕ) → Option ℕ → Option Request
-request_from (Some tag) (Some singular) (Some plural) (Some count) = Some (plain_request tag singular plural count)
-request_from (Some tag) (Some singular) (Some plural) None = None
-request_from (Some tag) (Some singular) None count = None
-request_from (Some tag) None plural count = None
-request_from None singular plural count = None
+abbrev pub request_from : Option (List ℕ) → Option (Option (List ℕ)) → Option (List ℕ) → Option (List ℕ) → Option ℕ → Option Request
+request_from (Some tag) (Some context) (Some singular) (Some plural) (Some count) = Some (plain_request tag context singular plural count)
+request_from (Some tag) (Some context) (Some singular) (Some plural) None = None
+request_from (Some tag) (Some context) (Some singular) None count = None
+request_from (Some tag) (Some context) None plural count = None
+request_from (Some tag) None singular plural count = None
+request_from None context singular plural count = None
 
--- a request has a tag, the words for one and for more, and a count
+-- a request has a tag, the words for one and for more, and a count, and it may have a context
 abbrev pub request_in : Members → Option Request
-request_in ms = only (codes "tag" ∷ codes "singular" ∷ codes "plural" ∷ codes "count" ∷ []) ms (request_from
+request_in ms = only (codes "tag" ∷ codes "context" ∷ codes "singular" ∷ codes "plural" ∷ codes "count" ∷ []) ms (request_from
     (member_of tag_of (codes "tag") ms)
+    (optional_member_of text_of (codes "context") ms)
     (member_of text_of (codes "singular") ms)
     (member_of text_of (codes "plural") ms)
     (member_of count_of (codes "count") ms))

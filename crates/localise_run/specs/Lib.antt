@@ -1,5 +1,4 @@
 pub mod Code
 pub mod Contents
 pub mod Document
-pub mod Reading
 pub mod Run

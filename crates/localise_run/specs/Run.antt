@@ -2,15 +2,16 @@
 use Rattle.std.specs.Prelude.{◌≡◌, ℕ, ◌≤◌, ◌⊎◌, List, [], ◌∷◌, ◌++◌, length, map, codes, Option, Some, None, IfSome, Bool, true, String, string_bytes, nat_le, if◌then◌else◌}
 use Rattle.std.specs.declared.alloc.Global.{Global}
 use Rattle.writeable.specs.Sink.{TookPrefix, Rose}
-use Rattle.gettext.specs.declared.error.Error.TheVariants as mo
 use Rattle.localise.specs.declared.bundle.BundleText.{BundleText}
 use Rattle.localise.specs.declared.request.Request.{Request}
-use Rattle.localise.specs.declared.error.BundleCause.TheVariants.{Mo}
 use Rattle.localise.specs.declared.error.RenderError.{RenderError}
 use Rattle.localise.specs.declared.error.RenderError.TheVariants as refusals
 use Rattle.localise.specs.Bundles.{AllMean, refusal}
 use Rattle.localise.specs.Chosen.{localised}
 use Rattle.localise.specs.Meaning.{Meaning}
+use Rattle.reading.specs.Reading.{most_bytes}
+use Rattle.reading.specs.declared.error.ReadError.{ReadError}
+use Rattle.reading.specs.declared.error.ReadError.TheVariants as unread
 use Rattle.serde_json.specs.Data.{Data}
 use Rattle.localise_run.specs.Contents.{Contents}
 use Rattle.localise_run.specs.Document.{json_of, document_of}
@@ -20,10 +21,6 @@ use Rattle.localise_run.specs.declared.status.Status.TheVariants.{Done, BadWords
 -- the words are the one command
 abbrev pub IsRender : List (String Global) → Type 0
 IsRender words = map string_bytes words ≡ codes "render" ∷ []
-
--- the most bytes that are read
-abbrev pub most_bytes : ℕ
-most_bytes = 67_108_864
 
 -- the text that a request gets, and a line feed
 abbrev pub line_of : List Meaning → Request → List ℕ
@@ -38,8 +35,7 @@ output bundles (q ∷ qs) = line_of bundles q ++ output bundles qs
 
 -- the answer to a refusal of the bundles
 abbrev pub bundle_answer : RenderError → Status
-bundle_answer (refusals.Bundle i (Mo mo.NotBuilt)) = NotBuilt
-bundle_answer (refusals.Bundle i (Mo e)) = Bundle i (Mo e)
+bundle_answer (refusals.Bundle i cause) = Bundle i cause
 bundle_answer refusals.NoMemory = NoMemory
 
 abbrev pub refused_or_done : Option RenderError → Status
@@ -54,8 +50,7 @@ abbrev pub answer_to_value : Option Data → Status
 answer_to_value None = NotJson
 answer_to_value (Some value) = answer_to_contents (document_of value)
 
--- The one answer of an input: the first of too long, no JSON, no document that is understood, and a
--- faulty bundle; or Done.
+-- The one answer of an input: the first of too long, no JSON, no document, and a faulty bundle; or Done.
 abbrev pub answer_of : List ℕ → Status
 answer_of bytes = if nat_le (length bytes) most_bytes then answer_to_value (json_of bytes) else TooLong
 
@@ -107,7 +102,13 @@ ComesAtEnd _ = Unit {0}
 
 -- ---- how the steps of a run fail
 
--- reading the document: no JSON, or none that is understood
+-- the answer where the source isn't read to its end
+abbrev pub read_answer : ReadError → Status
+read_answer unread.Fault = ReadFault
+read_answer unread.TooLong = TooLong
+read_answer unread.NoMemory = NoMemory
+
+-- reading the document: no JSON, or JSON of another form
 abbrev pub IsMisread : Option Data → Status → Type 0
 IsMisread json NoMemory = Unit {0}
 IsMisread json NotJson = json ≡ None
@@ -117,7 +118,6 @@ IsMisread json _ = ⊥
 -- reading the bundles' catalogs
 abbrev pub IsRefused : List BundleText → Status → Type 0
 IsRefused bundles NoMemory = Unit {0}
-IsRefused bundles NotBuilt = refused_or_done (refusal bundles) ≡ NotBuilt
 IsRefused bundles (Bundle i cause) = refused_or_done (refusal bundles) ≡ Bundle i cause
 IsRefused bundles _ = ⊥
 

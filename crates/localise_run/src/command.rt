@@ -1,15 +1,17 @@
 ghost use Rattle.std.specs.Prelude.{◌≡◌, ◌≤◌, ◌↔◌, ◌⊎◌, ℕ, List, [], true, length, Some, None, IsTrue, IfOk, IfErr, OnOk, IfSome};
 ghost use Rattle.std.specs.List.{AllByRecursion};
 ghost use Rattle.writeable.specs.Sink.{TookPrefix, Rose};
+ghost use Rattle.reading.specs.Reading.{most_bytes};
 ghost use Rattle.localise.specs.Bundles.{Localises, refusal};
+ghost use Rattle.localise.specs.Kept.{meanings};
 ghost use Rattle.localise_run.specs.Contents.{Contents};
-ghost use Rattle.localise_run.specs.Run.{IsRender, IsRefused, FailsToRender, Renders, Appended, IsDocument, IsFailure, IsRefusal, ComesAtEnd, Outcome, answer_of, most_bytes};
+ghost use Rattle.localise_run.specs.Run.{IsRender, IsRefused, FailsToRender, Renders, Appended, IsDocument, IsFailure, IsRefusal, ComesAtEnd, Outcome, answer_of};
 
 use crate::Status;
 use crate::document::{Document, document_of_bytes};
 use crate::lines::write_lines;
-use crate::reading::read_all;
-use localise::{BundleCause, BundleText, Localiser, RenderError};
+use localise::{BundleText, Localiser, RenderError};
+use reading::read_all;
 use std::alloc::Global;
 use writeable::{Sink, SinkError, Source};
 
@@ -85,16 +87,13 @@ fn render_bytes<O: Sink>(alloc: Global, bytes: Vec<u8>, out: &mut O) -> Result<(
 
 fn localiser_of(alloc: Global, bundles: Vec<BundleText>) -> Result<Localiser, Status>
     requires { length bundles.items ≤ 1 }
-    ensures ok { IfOk result (Localises bundles.items) }
+    ensures ok { IfOk result (λ localiser. Localises bundles.items (meanings localiser)) }
     ensures accepted { OnOk result (refusal bundles.items ≡ None) }
     ensures err { IfErr result (IsRefused bundles.items) }
 {
     match Localiser::try_new(alloc, &bundles) {
         Ok(localiser) => Ok(localiser),
         Err(RenderError::NoMemory) => Err(Status::NoMemory),
-        Err(RenderError::Bundle(_, BundleCause::Mo(gettext::Error::NotBuilt))) => {
-            Err(Status::NotBuilt)
-        }
         Err(RenderError::Bundle(bundle, cause)) => Err(Status::Bundle(bundle, cause)),
     }
 }
@@ -105,7 +104,7 @@ fn render<S: Source, O: Sink>(alloc: Global, source: &mut S, out: &mut O) -> Sta
 {
     let bytes = match read_all(alloc, source) {
         Ok(bytes) => bytes,
-        Err(status) => return status,
+        Err(error) => return Status::from(error),
     };
     match render_bytes(alloc, bytes, out) {
         Ok(()) => Status::Done,

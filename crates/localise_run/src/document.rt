@@ -4,7 +4,7 @@ ghost use Rattle.std.specs.List.{list_all, AllByRecursion};
 ghost use Rattle.std.specs.Str.{chars};
 ghost use Rattle.localise.specs.Plain.{is_plain_tag, is_lower_case_letter, IsPlain};
 ghost use Rattle.serde_json.specs.View.{view, members_view, items_view};
-ghost use Rattle.localise_run.specs.Document.{text_of, tag_of, count_of, bytes_of, request_from, request_in, request_of, bundle_from, bundle_in, bundle_of, document_from, document_in, document_of, each_of, list_of, checked, is_few, json_of, member_of, without};
+ghost use Rattle.localise_run.specs.Document.{text_of, tag_of, count_of, bytes_of, optional_member_of, request_from, request_in, request_of, bundle_from, bundle_in, bundle_of, document_from, document_in, document_of, each_of, list_of, checked, is_few, json_of, member_of, without};
 ghost use Rattle.localise_run.specs.Run.{IsDocument, IsMisread};
 
 use crate::Status;
@@ -104,6 +104,17 @@ fn take_text(members: &mut Map<String, Value>, name: &str) -> Option<OwnedText>
     text_from(take_member(members, name)?)
 }
 
+/// A text that may be left out.
+fn take_optional_text(members: &mut Map<String, Value>, name: &str) -> Option<Option<OwnedText>>
+    ensures value { result ≡ optional_member_of text_of name.now (members_view members.old.entries) }
+    ensures rest { members_view members.new.entries ≡ without name.now (members_view members.old.entries) }
+{
+    match take_member(members, name) {
+        Some(value) => Some(Some(text_from(value)?)),
+        None => Some(None),
+    }
+}
+
 fn take_bytes(
     alloc: Global,
     members: &mut Map<String, Value>,
@@ -128,15 +139,16 @@ fn take_count(members: &mut Map<String, Value>, name: &str) -> Option<u64>
 fn request_of_parts(
     alloc: Global,
     tag: Option<OwnedText>,
+    context: Option<Option<OwnedText>>,
     singular: Option<OwnedText>,
     plural: Option<OwnedText>,
     count: Option<u64>,
 ) -> Option<Request>
-    ensures { result ≡ request_from tag singular plural count }
+    ensures { result ≡ request_from tag context singular plural count }
 {
     Some(Request {
         tag: tag?,
-        context: None,
+        context: context?,
         singular: singular?,
         plural: plural?,
         count: count?,
@@ -149,13 +161,14 @@ fn request_of_members(alloc: Global, mut members: Map<String, Value>) -> Option<
     ensures { result ≡ request_in (members_view members.entries) }
 {
     let tag = take_tag(&mut members, "tag");
+    let context = take_optional_text(&mut members, "context");
     let singular = take_text(&mut members, "singular");
     let plural = take_text(&mut members, "plural");
     let count = take_count(&mut members, "count");
     if !is_none_left_in(&members) {
         return None;
     }
-    request_of_parts(alloc, tag, singular, plural, count)
+    request_of_parts(alloc, tag, context, singular, plural, count)
 }
 
 #[tactic(auto, unfolding(crate::specs::Document::request_of))]
@@ -224,6 +237,16 @@ fn bundle_list(alloc: Global, values: Vec<Value>) -> Result<Option<Vec<BundleTex
     Ok(Some(bundles))
 }
 
+/// The bundles that the values are, where there is one value at most.
+fn few_bundles(alloc: Global, values: Vec<Value>) -> Result<Option<Vec<BundleText>>, AllocError>
+    ensures { IfOk result (λ bundles. option_map (λ v. v.items) bundles ≡ checked is_few (each_of bundle_of (items_view values.items))) }
+{
+    if values.len() > 1 {
+        return Ok(None);
+    }
+    bundle_list(alloc, values)
+}
+
 /// The bundles that a member lists, where it is there and lists one at most.
 fn take_bundles(
     alloc: Global,
@@ -236,13 +259,7 @@ fn take_bundles(
     let Some(Value::Array(values)) = take_member(members, name) else {
         return Ok(None);
     };
-    let Some(bundles) = bundle_list(alloc, values)? else {
-        return Ok(None);
-    };
-    if bundles.len() > 1 {
-        return Ok(None);
-    }
-    Ok(Some(bundles))
+    few_bundles(alloc, values)
 }
 
 fn take_requests(
@@ -295,7 +312,7 @@ fn document_of_value(alloc: Global, value: Value) -> Result<Option<Document>, Al
     }
 }
 
-/// The document that bytes are, if they are one that is understood.
+/// The document that bytes are, if they are one.
 pub fn document_of_bytes(alloc: Global, bytes: Vec<u8>) -> Result<Document, Status>
     ensures ok { IfOk result (IsDocument bytes.items) }
     ensures few { IfOk result (λ d. length d.bundles ≤ 1) }

@@ -7,7 +7,6 @@ mod command;
 mod document;
 mod lines;
 mod members;
-mod reading;
 mod status;
 
 pub use command::run;

@@ -1,6 +1,7 @@
 ghost use Rattle.std.specs.Prelude.{◌++◌, [], ◌∷◌, OnOk, OnErr};
 ghost use Rattle.std.specs.List.{AllByRecursion};
 ghost use Rattle.writeable.specs.Sink.{TookPrefix, HasCause};
+ghost use Rattle.localise.specs.Kept.{meanings};
 ghost use Rattle.localise.specs.Plain.{IsPlain};
 ghost use Rattle.localise_run.specs.Run.{line_of, output};
 
@@ -14,8 +15,8 @@ fn write_line<O: Sink>(
     out: &mut O,
 ) -> Result<(), SinkError>
     requires { IsPlain request.now }
-    ensures ok { OnOk result (O.took out.old (line_of localiser.now request.now) out.new) }
-    ensures err { OnErr result (TookPrefix O.took out.old (line_of localiser.now request.now) out.new) }
+    ensures ok { OnOk result (O.took out.old (line_of (meanings localiser.now) request.now) out.new) }
+    ensures err { OnErr result (TookPrefix O.took out.old (line_of (meanings localiser.now) request.now) out.new) }
     ensures cause { HasCause (O.faults out.old) (O.faults out.new) (O.takes_memory out.old) result }
 {
     localiser.find(request).write_to(out)?;
@@ -30,8 +31,8 @@ pub fn write_lines<O: Sink>(
     out: &mut O,
 ) -> Result<(), SinkError>
     requires { AllByRecursion IsPlain requests.now }
-    ensures ok { OnOk result (O.took out.old (output localiser.now requests.now) out.new) }
-    ensures err { OnErr result (TookPrefix O.took out.old (output localiser.now requests.now) out.new) }
+    ensures ok { OnOk result (O.took out.old (output (meanings localiser.now) requests.now) out.new) }
+    ensures err { OnErr result (TookPrefix O.took out.old (output (meanings localiser.now) requests.now) out.new) }
     ensures cause { HasCause (O.faults out.old) (O.faults out.new) (O.takes_memory out.old) result }
 {
     for request in requests {

@@ -2,6 +2,7 @@ ghost use Rattle.std.specs.Prelude.{◌≡◌};
 ghost use Rattle.localise_run.specs.Code.{code_of};
 
 use localise::BundleCause;
+use reading::ReadError;
 
 /// How a run ended.
 #[derive(Clone, Copy, Debug, PartialEq, Eq)]
@@ -22,8 +23,7 @@ pub enum Status {
     NoMemory,
     /// The input has more bytes than are read.
     TooLong,
-    /// The input is JSON, but no document that is understood so far, or its catalog is no file that
-    /// is understood so far.
+    /// The input is JSON, but no document.
     NotBuilt,
 }
 
@@ -42,6 +42,20 @@ impl Status {
             Status::NoMemory => 10,
             Status::TooLong => 11,
             Status::NotBuilt => 12,
+        }
+    }
+}
+
+impl From<ReadError> for Status {
+    ghost use Rattle.localise_run.specs.Run.{read_answer};
+
+    ghost from_gives = { λ error status. status ≡ read_answer error };
+
+    fn from(error: ReadError) -> Status {
+        match error {
+            ReadError::Fault => Status::ReadFault,
+            ReadError::TooLong => Status::TooLong,
+            ReadError::NoMemory => Status::NoMemory,
         }
     }
 }

@@ -1,9 +1,15 @@
 -- Reading failed.
+use Rattle.std.proofs.Common.{sym, subst}
+use Rattle.localise_run.specs.declared.status.Status.{Status}
+use Rattle.localise_run.specs.Run.{Outcome}
 use Rattle.localise_run.proofs.Outcomes.{read_outcome}
 use Rattle.localise_run.proofs.command.render.Goals as goal
 
 pub returns-in-Err : goal.returns-in-Err
 returns-in-Err g c =
-    read_outcome (g.S.Source.left c.args.source.now) (g.S.Source.faults c.args.source.now) (g.S.Source.faults c.read_all.new.source)
+    subst (λ (s : Status). Outcome (g.S.Source.left c.args.source.now) (g.S.Source.faults c.args.source.now) (g.S.Source.faults c.read_all.new.source)
+    (g.S.Source.ended c.read_all.new.source) g.O.Sink.took (g.O.Sink.faults c.args.out.now) (g.O.Sink.faults c.args.out.now) c.args.out.now c.args.out.now s)
+    (sym c.from.ensures)
+    (read_outcome (g.S.Source.left c.args.source.now) (g.S.Source.faults c.args.source.now) (g.S.Source.faults c.read_all.new.source)
     (g.S.Source.ended c.read_all.new.source) g.O.Sink.took (g.O.Sink.faults c.args.out.now) (g.O.Sink.faults c.args.out.now) c.args.out.now
-    c.in-Err.status c.in-Err.ensures.err
+    c.in-Err.error c.in-Err.ensures.err)

@@ -10,10 +10,13 @@ returns c =
     let none_left : is_none_left (members_view c.take_count-count.new.members.entries) ≡ true =
     sym c.is_none_left_in.ensures ∙ c.if-not-is_none_left_in.false in
     c.request_of_parts.ensures
-    ∙ ap (λ b. cond b (request_from c.take_tag-tag.result c.take_text-singular.result c.take_text-plural.result c.take_count-count.result) None) (sym none_left)
+    ∙ ap (λ b. cond b (request_from c.take_tag-tag.result c.take_optional_text-context.result c.take_text-singular.result c.take_text-plural.result c.take_count-count.result) None) (sym none_left)
     ∙ request_taken (members_view c.args.members.entries)
-    (members_view c.take_tag-tag.new.members.entries) (members_view c.take_text-singular.new.members.entries)
-    (members_view c.take_text-plural.new.members.entries) (members_view c.take_count-count.new.members.entries)
-    _ _ _ _
-    c.take_tag-tag.ensures.rest c.take_text-singular.ensures.rest c.take_text-plural.ensures.rest c.take_count-count.ensures.rest
-    c.take_tag-tag.ensures.value c.take_text-singular.ensures.value c.take_text-plural.ensures.value c.take_count-count.ensures.value
+    (members_view c.take_tag-tag.new.members.entries) (members_view c.take_optional_text-context.new.members.entries)
+    (members_view c.take_text-singular.new.members.entries) (members_view c.take_text-plural.new.members.entries)
+    (members_view c.take_count-count.new.members.entries)
+    _ _ _ _ _
+    c.take_tag-tag.ensures.rest c.take_optional_text-context.ensures.rest c.take_text-singular.ensures.rest
+    c.take_text-plural.ensures.rest c.take_count-count.ensures.rest
+    c.take_tag-tag.ensures.value c.take_optional_text-context.ensures.value c.take_text-singular.ensures.value
+    c.take_text-plural.ensures.value c.take_count-count.ensures.value

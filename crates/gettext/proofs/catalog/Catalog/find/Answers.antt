@@ -1,9 +1,12 @@
-use Rattle.std.proofs.Common.{◌∙◌, sym}
-use Rattle.gettext.proofs.Lookups.{form-from_numbered}
+use Rattle.std.proofs.Common.{sym, ◌∙◌}
+use Rattle.gettext.proofs.Forms.{form-at}
 use Rattle.gettext.proofs.catalog.Catalog.find.Goals as goal
 
+pub returns-in_err-number : goal.returns-in_err-number
+returns-in_err-number c = record { found = λ m s. rw c.from_residual.ensures (sym (form-at c.args.self.now.entries m _ c.args.n s _ c.in_err-number.ensures)) }
+
 pub returns-in_err-text : goal.returns-in_err-text
-returns-in_err-text c = record { found = λ m s. rw c.from_residual.ensures (c.in_err-text.ensures ∙ sym (form-from_numbered c.args.self.now.entries.messages m _ c.args.n c.default_resolver-number.result s c.default_resolver-number.ensures)) }
+returns-in_err-text c = record { found = λ m s. rw c.from_residual-in_err-text.ensures (c.in_err-text.ensures m s ∙ sym (form-at c.args.self.now.entries m _ c.args.n s _ c.in_ok-number.ensures)) }
 
 pub returns : goal.returns
-returns c = record { found = λ m s. c.in_ok-text.ensures ∙ sym (form-from_numbered c.args.self.now.entries.messages m _ c.args.n c.default_resolver-number.result s c.default_resolver-number.ensures) }
+returns c = record { found = λ m s. c.in_ok-text.ensures m s ∙ sym (form-at c.args.self.now.entries m _ c.args.n s _ c.in_ok-number.ensures) }

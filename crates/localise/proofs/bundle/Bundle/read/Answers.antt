@@ -1,6 +1,7 @@
 -- The catalog stands for what the file means, and the locale is the tag.
 use Rattle.std.proofs.Common.{◌≡◌, ℕ, List, rules, refl, subst}
 use Rattle.gettext.specs.Mo.{entries}
+use Rattle.gettext.specs.Options.{plain_options}
 use Rattle.localise.proofs.bundle.Bundle.read.Goals as goal
 
 pub returns-clause-ok : goal.returns-clause-ok
@@ -9,7 +10,7 @@ returns-clause-ok c =
     let copied : c.in_ok-locale.locale ≡ c.args.text.now.tag = search rules in
     record {
       meaning = record { locale = c.args.text.now.tag; messages = sound.0 };
-      means = record { locale = refl; messages = subst (λ (bytes : List ℕ). entries bytes sound.0) c.as_slice.ensures sound.1 };
+      means = record { locale = refl; messages = subst (λ (bytes : List ℕ). entries bytes plain_options sound.0) c.as_slice.ensures sound.1 };
       locale = copied;
       stands = sound.2;
     }

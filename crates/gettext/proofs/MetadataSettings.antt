@@ -1,0 +1,56 @@
+-- What the metadata of a file settle.
+use Rattle.std.proofs.Common.{◌≡◌, Bool, true, false, cond, List, [], Option, Some, None, refl, sym, ◌∙◌}
+use Rattle.std.specs.Option.{unwrap_or}
+use Rattle.gettext.specs.declared.error.Error.TheVariants.{MalformedMetadata, PluralParsing, UnknownEncoding}
+use Rattle.gettext.specs.declared.encoding.Encoding.{Encoding}
+use Rattle.gettext.specs.declared.encoding.Encoding.TheVariants.{Utf8}
+use Rattle.gettext.specs.declared.settings.Settings.{Settings}
+use Rattle.gettext.specs.Options.{Options}
+use Rattle.gettext.specs.Rule.{rule_shown}
+use Rattle.gettext.specs.Metadata.{Field, value_of}
+use Rattle.gettext.specs.Messages.{Rule, Default, Function}
+use Rattle.gettext.specs.Mo.{first_failure, first_encoding, encoding_by, named_encoding, rule_by, rule_of, metadata_conditions}
+use Rattle.gettext.specs.Settings.{IsSettings, plurals_by}
+
+-- ---- without metadata
+
+pub first_named : (forced : Option Encoding) → encoding_by forced None ≡ Some (unwrap_or forced Utf8)
+first_named None = refl
+first_named (Some e) = refl
+
+pub rule_without : (forced : Bool) → rule_by forced None ≡ Some (cond forced Function Default)
+rule_without true = refl
+rule_without false = refl
+
+plurals_without : (forced : Bool) → plurals_by forced [] ≡ None
+unfolding value_of
+plurals_without true = refl
+plurals_without false = refl
+
+pub no_metadata : (o : Options) (s : Settings) → s.encoding ≡ first_encoding o → rule_shown s.rule ≡ cond o.forced Function Default → s.plurals ≡ None → IsSettings o [] s
+unfolding value_of
+no_metadata o s e r p = record {
+  encoding = rw e (first_named o.encoding);
+  rule = rw r (rule_without o.forced);
+  plurals = p ∙ sym (plurals_without o.forced);
+}
+
+-- ---- the conditions of metadata
+
+module _ (o : Options) (found : Option (List Field)) where
+  pub is_malformed : found ≡ None → first_failure (metadata_conditions o found) ≡ Some MalformedMetadata
+  unfolding metadata_conditions
+  is_malformed e = rw e refl
+
+  module _ (fields : List Field) (is : found ≡ Some fields) where
+    pub is_unknown : named_encoding o fields ≡ None → first_failure (metadata_conditions o found) ≡ Some UnknownEncoding
+    unfolding metadata_conditions
+    is_unknown n = rw (is, n) refl
+
+    pub is_no_rule : (e : Encoding) → named_encoding o fields ≡ Some e → rule_of o fields ≡ None → first_failure (metadata_conditions o found) ≡ Some PluralParsing
+    unfolding metadata_conditions
+    is_no_rule e n r = rw (is, n, r) refl
+
+    pub holds : (e : Encoding) (rule : Rule) → named_encoding o fields ≡ Some e → rule_of o fields ≡ Some rule → first_failure (metadata_conditions o found) ≡ None
+    unfolding metadata_conditions
+    holds e rule n r = rw (is, n, r) refl

@@ -1,0 +1,64 @@
+ghost use Rattle.std.specs.Prelude.{◌≡◌, ◌+◌, ◌<◌, ◌≤◌, ◌^◌, true, length, vec_len, IfOk, IfErr, OnOk, IfSome};
+ghost use Rattle.std.specs.Io.KnownBytes.{Consumes, IsAtEnd};
+ghost use Rattle.reading.specs.Reading.{most_bytes, IsReadError};
+
+use crate::ReadError;
+use std::alloc::Global;
+use writeable::Source;
+
+/// The most bytes that are read.
+pub const MOST_BYTES: usize = 67_108_864;
+
+/// How many bytes a read asks for.
+const PIECE: usize = 65_536;
+
+/// All bytes that a source has left, if they are no more than `MOST_BYTES`.
+pub fn read_all<S: Source>(alloc: Global, source: &mut S) -> Result<Vec<u8>, ReadError>
+    ensures all { IfOk result (λ bytes. IfSome (S.left source.old) (λ told. bytes.items ≡ told)) }
+    ensures within { IfOk result (λ bytes. length bytes.items ≤ most_bytes) }
+    ensures ended { OnOk result (S.ended source.new ≡ true) }
+    ensures later { S.faults source.old ≤ S.faults source.new }
+    ensures err { IfErr result (IsReadError most_bytes (S.faults source.old) (S.faults source.new) (S.left source.old)) }
+{
+    let mut piece = zeros(alloc, PIECE)?;
+    read_turns(alloc, source, &mut piece, MOST_BYTES)
+}
+
+fn zeros(alloc: Global, count: usize) -> Result<Vec<u8>, ReadError>
+    ensures ok { IfOk result (λ piece. vec_len piece ≡ count) }
+    ensures err { IfErr result (λ e. e ≡ ReadError.NoMemory) }
+{
+    vec![in alloc; 0u8; count].map_err(|_| ReadError::NoMemory)
+}
+
+/// Reads a piece a turn, until nothing is left. Each turn but the last gives a byte at least.
+fn read_turns<S: Source>(
+    alloc: Global,
+    source: &mut S,
+    piece: &mut [u8],
+    most: usize,
+) -> Result<Vec<u8>, ReadError>
+    requires room { 0 < length piece.old }
+    requires small { most + 2 < 2 ^ 64 }
+    ensures all { IfOk result (λ bytes. Consumes (S.left source.old) (S.left source.new) bytes.items) }
+    ensures nothing_left { OnOk result (IsAtEnd (S.left source.new)) }
+    ensures within { IfOk result (λ bytes. length bytes.items ≤ most) }
+    ensures ended { OnOk result (S.ended source.new ≡ true) }
+    ensures later { S.faults source.old ≤ S.faults source.new }
+    ensures err { IfErr result (IsReadError most (S.faults source.old) (S.faults source.new) (S.left source.old)) }
+{
+    let mut bytes = Vec::new(alloc);
+    for _turn in 0..most + 2 {
+        let count = source.read(piece).map_err(|_| ReadError::Fault)?;
+        if count == 0 {
+            return Ok(bytes);
+        }
+        if count > most - bytes.len() {
+            return Err(ReadError::TooLong);
+        }
+        bytes
+            .extend_from_slice(&piece[..count])
+            .map_err(|_| ReadError::NoMemory)?;
+    }
+    unreachable!()
+}
