@@ -6,9 +6,19 @@ mod catalogs;
 #[cfg(test)]
 mod comparing;
 #[cfg(test)]
+mod documents;
+#[cfg(test)]
+mod expressions;
+#[cfg(test)]
 mod greeting;
 #[cfg(test)]
+mod headers;
+#[cfg(test)]
 mod hints;
+#[cfg(test)]
+mod layout;
+#[cfg(test)]
+mod lookups;
 #[cfg(test)]
 mod messages;
 #[cfg(test)]
@@ -19,6 +29,8 @@ mod outside;
 mod parts;
 #[cfg(test)]
 mod program;
+#[cfg(test)]
+mod sources;
 #[cfg(test)]
 mod tables;
 #[cfg(test)]
