@@ -85,6 +85,14 @@ fn rules(rt: HostRuntime) -> Result<(), Fail> {
     Ok(())
 }
 
+/// Whether a form of `Hi` stands in the catalog's buffer, in UTF-8.
+fn stands_in_buffer(catalog: &Catalog, number: usize, text: &str) -> bool {
+    match catalog.form_range(None, "Hi", number) {
+        Some((start, end)) => catalog.buffer().get(start..end) == Some(text.as_bytes()),
+        None => false,
+    }
+}
+
 #[test]
 fn first_row(rt: HostRuntime) -> Result<(), Fail> {
     let alloc = rt.alloc();
@@ -93,11 +101,14 @@ fn first_row(rt: HostRuntime) -> Result<(), Fail> {
     let catalog = Catalog::parse_bytes(alloc, &file)?;
     assert_eq!(rt; catalog.gettext(""), header);
     assert_eq!(rt; catalog.gettext("Hi"), "café");
-    for (number, text) in [(0, "café"), (1, "€")] {
-        let range = catalog.form_range(None, "Hi", number);
-        let bytes = range.and_then(|(start, end)| catalog.buffer().get(start..end));
-        assert!(rt; bytes == Some(text.as_bytes()));
-    }
+    assert!(rt; stands_in_buffer(&catalog, 0, "café"));
+    assert!(rt; stands_in_buffer(&catalog, 1, "€"));
+    Ok(())
+}
+
+#[test]
+fn utf8_buffer(rt: HostRuntime) -> Result<(), Fail> {
+    let alloc = rt.alloc();
     let header = "Content-Type: text/plain; charset=UTF-8\nLast-Translator: Né\n";
     let file = file_of(alloc, header, "café".as_bytes())?;
     let catalog = Catalog::parse_bytes(alloc, &file)?;

@@ -1,7 +1,7 @@
 //! The look-ups of a catalog.
 
 use crate::layout::mo_of;
-use gettext::{Catalog, Error, ParseOptions, PluralFunction};
+use gettext::{Catalog, Error, ParseOptions};
 use std::alloc::Global;
 use std::test::Fail;
 
@@ -13,13 +13,6 @@ fn catalog_of(alloc: Global, rows: &[(&[u8], &[u8])]) -> Result<Catalog, Error> 
 /// The number of the form is the count.
 fn the_count(n: u64) -> usize {
     n as usize
-}
-
-/// The catalog of rows, where the number of the form is the count.
-fn counted(alloc: Global, rows: &[(&[u8], &[u8])]) -> Result<Catalog<PluralFunction>, Error> {
-    ParseOptions::new()
-        .force_plural(the_count)
-        .parse_bytes(alloc, &mo_of(alloc, rows)?)
 }
 
 #[test]
@@ -64,9 +57,12 @@ fn plurals(rt: HostRuntime) -> Result<(), Fail> {
 #[test]
 fn forced(rt: HostRuntime) -> Result<(), Fail> {
     let alloc = rt.alloc();
-    let plain = counted(alloc, &[(b"Text\0Texts", b"Tekstas\0Tekstai")])?;
-    let rows: &[(&[u8], &[u8])] = &[(b"ctx\x04Text\0Texts", b"Tekstas\0Tekstai")];
-    let in_context = counted(alloc, rows)?;
+    let file = mo_of(alloc, &[(b"Text\0Texts", b"Tekstas\0Tekstai")])?;
+    let options = ParseOptions::new().force_plural(the_count);
+    let plain = options.parse_bytes(alloc, &file)?;
+    let file = mo_of(alloc, &[(b"ctx\x04Text\0Texts", b"Tekstas\0Tekstai")])?;
+    let options = ParseOptions::new().force_plural(the_count);
+    let in_context = options.parse_bytes(alloc, &file)?;
     for (n, text) in [(0, "Tekstas"), (1, "Tekstai"), (2, "Texts")] {
         assert_eq!(rt; plain.ngettext("Text", "Texts", n), text);
         assert_eq!(rt; in_context.npgettext("ctx", "Text", "Texts", n), text);
