@@ -127,7 +127,7 @@ fn failing_output(rt: HostRuntime) -> Result<(), Fail> {
 
 /// A source of spaces without end. It doesn't tell its bytes.
 #[derive(Drop)]
-struct Spaces;
+pub struct Spaces;
 
 impl Source for Spaces {
     ghost use Rattle.std.specs.Prelude.{None, false};

@@ -2,6 +2,7 @@
 
 use crate::catalogs::SALUT;
 use crate::layout::mo_of;
+use crate::program::Spaces;
 use gettext::{Catalog, Encoding, Error, ParseOptions};
 use std::test::Fail;
 use writeable::{ScriptSource, SliceSource};
@@ -53,5 +54,12 @@ fn with_options(rt: HostRuntime) -> Result<(), Fail> {
         .force_plural(first);
     let catalog = options.parse(alloc, &mut SliceSource::new(&bytes))?;
     assert_eq!(rt; catalog.ngettext("Hi", "His", 2), "\u{20AC}");
+    Ok(())
+}
+
+#[test]
+fn too_long(rt: HostRuntime) -> Result<(), Fail> {
+    let catalog = Catalog::parse(rt.alloc(), &mut Spaces);
+    assert_eq!(rt; catalog.err(), Some(Error::TooLong));
     Ok(())
 }
