@@ -1,4 +1,5 @@
--- Reading an expression from left to right, as a function on tokens. Private contracts cite it; the grammar decides.
+-- Reading an expression from left to right, as a function. The grammar decides: `expression_of` finds the tree that it has
+-- for a text, and none where it has none (the law `one_tree`). Conditions cite that, and private contracts the rest.
 use Rattle.std.specs.Prelude.{◌≡◌, ℕ, zero, suc, ◌+◌, max, List, [], ◌∷◌, length, drop, Option, Some, None, Result, MatchResult, ◌⊎◌, nat_lt, ◌==◌, if◌then◌else◌}
 use Rattle.gettext.specs.declared.error.Error.{Error}
 use Rattle.gettext.specs.declared.error.Error.TheVariants.{NoMemory, PluralParsing}

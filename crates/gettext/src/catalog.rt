@@ -56,11 +56,13 @@ impl Catalog {
         ensures ended { OnOk result (S.ended source.new ≡ true) }
 
         // Each error has its cause.
-        ensures cause { IfErr result (IsParseError plain_options (S.faults source.old) (S.faults source.new) (S.left source.old) (S.ended source.new)) }
+        ensures cause { IfErr result (IsParseError plain_options
+            (S.faults source.old) (S.faults source.new) (S.left source.old) (S.ended source.new)) }
         ensures ok { IfSome (S.left source.old) (λ bytes. (c : Messages) → length bytes ≤ most_bytes → entries bytes plain_options c
             → MatchResult result (λ catalog. StandsFor (messages_of catalog.entries) c) IsReadFault) }
         ensures later { S.faults source.old ≤ S.faults source.new }
-        ensures buffer { IfOk result (λ catalog. IfSome (S.left source.old) (λ bytes. IsInUtf8 bytes plain_options → catalog.entries.buffer ≡ bytes)) }
+        ensures buffer { IfOk result (λ catalog. IfSome (S.left source.old)
+            (λ bytes. IsInUtf8 bytes plain_options → catalog.entries.buffer ≡ bytes)) }
     {
         ParseOptions::new().parse(alloc, source)
     }
@@ -76,8 +78,10 @@ impl Catalog {
             → IsErrAnd result (λ e. (e ≡ NoMemory) ⊎ (e ≡ fault)) }
 
         // What is read means something.
-        ensures sound { IfOk result (λ catalog. (c : Messages) × entries bytes.now plain_options c × StandsFor (messages_of catalog.entries) c) }
-        ensures cause { MatchResult result (λ _. mo_fault bytes.now plain_options ≡ None) (λ e. (e ≡ NoMemory) ⊎ (mo_fault bytes.now plain_options ≡ Some e)) }
+        ensures sound { IfOk result (λ catalog. (c : Messages) × entries bytes.now plain_options c
+            × StandsFor (messages_of catalog.entries) c) }
+        ensures cause { MatchResult result (λ _. mo_fault bytes.now plain_options ≡ None)
+            (λ e. (e ≡ NoMemory) ⊎ (mo_fault bytes.now plain_options ≡ Some e)) }
         ensures buffer { IfOk result (λ catalog. IsInUtf8 bytes.now plain_options → catalog.entries.buffer ≡ bytes.now) }
     {
         ParseOptions::new().parse_bytes(alloc, bytes)
@@ -115,7 +119,8 @@ impl Catalog {
         n: u64,
     ) -> &'a str
         ensures text { (c : Messages) → StandsFor (messages_of self.now.entries) c
-            → chars result.now ≡ text_or (form c (key_of (Some (chars msg_context.now)) (chars msg_id.now)) n) (own_words n (chars msg_id.now) (chars msg_id_plural.now)) }
+            → chars result.now ≡ text_or (form c (key_of (Some (chars msg_context.now)) (chars msg_id.now)) n)
+            (own_words n (chars msg_id.now) (chars msg_id_plural.now)) }
     {
         match self.find(Some(msg_context), msg_id, n) {
             Some(form) => form.text,
@@ -139,7 +144,8 @@ impl Catalog<PluralFunction> {
     /// The form for `n` of the message with that id, or the id for 1, and the plural id otherwise.
     pub fn ngettext<'a>(&'a self, msg_id: &'a str, msg_id_plural: &'a str, n: u64) -> &'a str
         ensures text { (c : Messages) → StandsFor (messages_of self.now.entries) c → (k : ℕ) × post self.now.plural.plural n k
-            × (chars result.now ≡ text_or (numbered_within c (chars msg_id.now) k) (own_words n (chars msg_id.now) (chars msg_id_plural.now))) }
+            × (chars result.now ≡ text_or (numbered_within c (chars msg_id.now) k)
+            (own_words n (chars msg_id.now) (chars msg_id_plural.now))) }
     {
         match self.find(None, msg_id, n) {
             Some(form) => form.text,
@@ -157,7 +163,8 @@ impl Catalog<PluralFunction> {
         n: u64,
     ) -> &'a str
         ensures text { (c : Messages) → StandsFor (messages_of self.now.entries) c → (k : ℕ) × post self.now.plural.plural n k
-            × (chars result.now ≡ text_or (numbered_within c (key_of (Some (chars msg_context.now)) (chars msg_id.now)) k) (own_words n (chars msg_id.now) (chars msg_id_plural.now))) }
+            × (chars result.now ≡ text_or (numbered_within c (key_of (Some (chars msg_context.now)) (chars msg_id.now)) k)
+            (own_words n (chars msg_id.now) (chars msg_id_plural.now))) }
     {
         match self.find(Some(msg_context), msg_id, n) {
             Some(form) => form.text,
@@ -234,6 +241,7 @@ fn own_words<'a>(msg_id: &'a str, msg_id_plural: &'a str, n: u64) -> &'a str
 pub fn one_meaning()
     ensures faultless { (b : List ℕ) (o : Options) → (mo_fault b o ≡ None) ↔ ((c : Messages) × entries b o c) }
     ensures unique { (b : List ℕ) (o : Options) (c d : Messages) → entries b o c → entries b o d → c ≡ d }
-    ensures alike { (b : List ℕ) (o : Options) (c kept : Messages) → entries b o c → StandsFor kept c → (key : List ℕ) (n : ℕ) → form kept key n ≡ form c key n }
+    ensures alike { (b : List ℕ) (o : Options) (c kept : Messages) → entries b o c → StandsFor kept c
+        → (key : List ℕ) (n : ℕ) → form kept key n ≡ form c key n }
     ensures faults { (b : List ℕ) (o : Options) (e : Error) → mo_fault b o ≡ Some e → IsMoFault e }
 {}

@@ -4,11 +4,12 @@
 mod grammar;
 mod tokens;
 
-ghost use Rattle.std.specs.Prelude.{◌≡◌, ◌⊎◌, ℕ, List, IfOk, IfErr};
+ghost use Rattle.std.specs.Prelude.{◌≡◌, ◌⊎◌, ◌↔◌, ℕ, List, Some, IfOk, IfErr};
 ghost use Rattle.std.specs.Str.{chars};
 ghost use Rattle.gettext.specs.declared.error.Error.TheVariants.{NoMemory, PluralParsing};
 ghost use Rattle.gettext.specs.Expression.{Expression, tree_of, value, apply};
 ghost use Rattle.gettext.specs.Grammar.{expr, IsWhole, IsNoWhole, IsNoExpression};
+ghost use Rattle.gettext.specs.Parsing.{expression_of};
 
 use crate::error::Error;
 use grammar::{Level, part_at};
@@ -103,9 +104,10 @@ fn whole(alloc: Global, tokens: &[Token]) -> Result<Ast, Error>
     Ok(part.tree)
 }
 
-/// A text has at most one tree.
+/// A text has at most one tree, and `expression_of` finds it.
 pub fn one_tree()
-    ensures { (t : List ℕ) (e f : Expression) → expr t e → expr t f → e ≡ f }
+    ensures unique { (t : List ℕ) (e f : Expression) → expr t e → expr t f → e ≡ f }
+    ensures found { (t : List ℕ) (e : Expression) → (expression_of t ≡ Some e) ↔ expr t e }
 {}
 
 impl Operator {

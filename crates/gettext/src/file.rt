@@ -24,10 +24,12 @@ use writeable::Source;
 
 /// The table of a file's messages. Of equal keys the last row counts.
 pub fn table_of_bytes(alloc: Global, bytes: &[u8], options: Options) -> Result<Table, Error>
-    ensures ok { (c : Messages) → entries bytes.now options c → MatchResult result (λ table. StandsFor (messages_of table) c) (λ e. e ≡ NoMemory) }
+    ensures ok { (c : Messages) → entries bytes.now options c
+        → MatchResult result (λ table. StandsFor (messages_of table) c) (λ e. e ≡ NoMemory) }
     ensures err { (fault : Error) → mo_fault bytes.now options ≡ Some fault → IsErrAnd result (λ e. (e ≡ NoMemory) ⊎ (e ≡ fault)) }
     ensures sound { IfOk result (λ table. (c : Messages) × entries bytes.now options c × StandsFor (messages_of table) c) }
-    ensures cause { MatchResult result (λ _. mo_fault bytes.now options ≡ None) (λ e. (e ≡ NoMemory) ⊎ (mo_fault bytes.now options ≡ Some e)) }
+    ensures cause { MatchResult result (λ _. mo_fault bytes.now options ≡ None)
+        (λ e. (e ≡ NoMemory) ⊎ (mo_fault bytes.now options ≡ Some e)) }
     ensures buffer { IfOk result (λ table. IsInUtf8 bytes.now options → table.buffer ≡ bytes.now) }
 {
     let File {
@@ -48,7 +50,8 @@ pub fn table_of_source<S: Source>(
     ensures sound { IfOk result (λ table. IfSome (S.left source.old) (λ bytes. (length bytes ≤ most_bytes)
         × (c : Messages) × entries bytes options c × StandsFor (messages_of table) c)) }
     ensures ended { OnOk result (S.ended source.new ≡ true) }
-    ensures cause { IfErr result (IsParseError options (S.faults source.old) (S.faults source.new) (S.left source.old) (S.ended source.new)) }
+    ensures cause { IfErr result (IsParseError options
+        (S.faults source.old) (S.faults source.new) (S.left source.old) (S.ended source.new)) }
     ensures ok { IfSome (S.left source.old) (λ bytes. (c : Messages) → length bytes ≤ most_bytes → entries bytes options c
         → MatchResult result (λ table. StandsFor (messages_of table) c) IsReadFault) }
     ensures later { S.faults source.old ≤ S.faults source.new }

@@ -68,11 +68,14 @@ impl ParseOptions {
         ensures sound { IfOk result (λ catalog. IfSome (S.left source.old) (λ bytes. (length bytes ≤ most_bytes)
             × (c : Messages) × entries bytes (options_of self.encoding false) c × StandsFor (messages_of catalog.entries) c)) }
         ensures ended { OnOk result (S.ended source.new ≡ true) }
-        ensures cause { IfErr result (IsParseError (options_of self.encoding false) (S.faults source.old) (S.faults source.new) (S.left source.old) (S.ended source.new)) }
-        ensures ok { IfSome (S.left source.old) (λ bytes. (c : Messages) → length bytes ≤ most_bytes → entries bytes (options_of self.encoding false) c
+        ensures cause { IfErr result (IsParseError (options_of self.encoding false)
+            (S.faults source.old) (S.faults source.new) (S.left source.old) (S.ended source.new)) }
+        ensures ok { IfSome (S.left source.old)
+            (λ bytes. (c : Messages) → length bytes ≤ most_bytes → entries bytes (options_of self.encoding false) c
             → MatchResult result (λ catalog. StandsFor (messages_of catalog.entries) c) IsReadFault) }
         ensures later { S.faults source.old ≤ S.faults source.new }
-        ensures buffer { IfOk result (λ catalog. IfSome (S.left source.old) (λ bytes. IsInUtf8 bytes (options_of self.encoding false) → catalog.entries.buffer ≡ bytes)) }
+        ensures buffer { IfOk result (λ catalog. IfSome (S.left source.old)
+            (λ bytes. IsInUtf8 bytes (options_of self.encoding false) → catalog.entries.buffer ≡ bytes)) }
     {
         let options = Options {
             encoding: self.encoding,
@@ -90,7 +93,8 @@ impl ParseOptions {
             → MatchResult result (λ catalog. StandsFor (messages_of catalog.entries) c) (λ e. e ≡ NoMemory) }
         ensures err { (fault : Error) → mo_fault bytes.now (options_of self.encoding false) ≡ Some fault
             → IsErrAnd result (λ e. (e ≡ NoMemory) ⊎ (e ≡ fault)) }
-        ensures sound { IfOk result (λ catalog. (c : Messages) × entries bytes.now (options_of self.encoding false) c × StandsFor (messages_of catalog.entries) c) }
+        ensures sound { IfOk result (λ catalog. (c : Messages) × entries bytes.now (options_of self.encoding false) c
+            × StandsFor (messages_of catalog.entries) c) }
         ensures cause { MatchResult result (λ _. mo_fault bytes.now (options_of self.encoding false) ≡ None)
             (λ e. (e ≡ NoMemory) ⊎ (mo_fault bytes.now (options_of self.encoding false) ≡ Some e)) }
         ensures buffer { IfOk result (λ catalog. IsInUtf8 bytes.now (options_of self.encoding false) → catalog.entries.buffer ≡ bytes.now) }
@@ -116,11 +120,14 @@ impl ParseOptions<PluralFunction> {
         ensures sound { IfOk result (λ catalog. IfSome (S.left source.old) (λ bytes. (length bytes ≤ most_bytes)
             × (c : Messages) × entries bytes (options_of self.encoding true) c × StandsFor (messages_of catalog.entries) c)) }
         ensures ended { OnOk result (S.ended source.new ≡ true) }
-        ensures cause { IfErr result (IsParseError (options_of self.encoding true) (S.faults source.old) (S.faults source.new) (S.left source.old) (S.ended source.new)) }
-        ensures ok { IfSome (S.left source.old) (λ bytes. (c : Messages) → length bytes ≤ most_bytes → entries bytes (options_of self.encoding true) c
+        ensures cause { IfErr result (IsParseError (options_of self.encoding true)
+            (S.faults source.old) (S.faults source.new) (S.left source.old) (S.ended source.new)) }
+        ensures ok { IfSome (S.left source.old)
+            (λ bytes. (c : Messages) → length bytes ≤ most_bytes → entries bytes (options_of self.encoding true) c
             → MatchResult result (λ catalog. StandsFor (messages_of catalog.entries) c) IsReadFault) }
         ensures later { S.faults source.old ≤ S.faults source.new }
-        ensures buffer { IfOk result (λ catalog. IfSome (S.left source.old) (λ bytes. IsInUtf8 bytes (options_of self.encoding true) → catalog.entries.buffer ≡ bytes)) }
+        ensures buffer { IfOk result (λ catalog. IfSome (S.left source.old)
+            (λ bytes. IsInUtf8 bytes (options_of self.encoding true) → catalog.entries.buffer ≡ bytes)) }
         ensures plural { IfOk result (λ catalog. catalog.plural ≡ self.plural) }
     {
         let options = Options {
@@ -139,7 +146,8 @@ impl ParseOptions<PluralFunction> {
             → MatchResult result (λ catalog. StandsFor (messages_of catalog.entries) c) (λ e. e ≡ NoMemory) }
         ensures err { (fault : Error) → mo_fault bytes.now (options_of self.encoding true) ≡ Some fault
             → IsErrAnd result (λ e. (e ≡ NoMemory) ⊎ (e ≡ fault)) }
-        ensures sound { IfOk result (λ catalog. (c : Messages) × entries bytes.now (options_of self.encoding true) c × StandsFor (messages_of catalog.entries) c) }
+        ensures sound { IfOk result (λ catalog. (c : Messages) × entries bytes.now (options_of self.encoding true) c
+            × StandsFor (messages_of catalog.entries) c) }
         ensures cause { MatchResult result (λ _. mo_fault bytes.now (options_of self.encoding true) ≡ None)
             (λ e. (e ≡ NoMemory) ⊎ (mo_fault bytes.now (options_of self.encoding true) ≡ Some e)) }
         ensures buffer { IfOk result (λ catalog. IsInUtf8 bytes.now (options_of self.encoding true) → catalog.entries.buffer ≡ bytes.now) }

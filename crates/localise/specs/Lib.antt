@@ -4,3 +4,4 @@ pub mod Kept
 pub mod Localised
 pub mod Meaning
 pub mod Plain
+pub mod Words

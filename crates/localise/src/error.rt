@@ -1,3 +1,6 @@
+ghost use Rattle.std.specs.Prelude.{◌≡◌};
+ghost use Rattle.localise.specs.Words.{words_of_cause, words_of_refusal};
+
 use gettext::Error;
 use thiserror::Error as ErrorType;
 
@@ -11,7 +14,9 @@ pub enum BundleCause {
 
 impl BundleCause {
     /// The words of the error that it carries.
-    pub fn text(&self) -> &'static str {
+    pub fn text(&self) -> &'static str
+        ensures { result.now ≡ words_of_cause self.now }
+    {
         match self {
             BundleCause::Mo(error) => error.text(),
         }
@@ -31,7 +36,9 @@ pub enum RenderError {
 
 impl RenderError {
     /// The words of the error that it carries, or its own.
-    pub fn text(&self) -> &'static str {
+    pub fn text(&self) -> &'static str
+        ensures { result.now ≡ words_of_refusal self.now }
+    {
         match self {
             RenderError::Bundle(_, cause) => cause.text(),
             RenderError::NoMemory => "no memory",
