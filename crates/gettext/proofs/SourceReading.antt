@@ -1,12 +1,13 @@
 -- What was read of a source, and what it means.
-use Rattle.std.proofs.Common.{◌≡◌, ℕ, ◌≤◌, Bool, true, List, length, Option, Some, None, subst, ◌⊎◌, inl, inr}
+use Rattle.std.proofs.Common.{◌≡◌, ℕ, ◌≤◌, List, length, Option, Some, None, subst, ◌⊎◌, inl, inr}
+use Rattle.std.proofs.lemmas.Bool.{le-leb}
 use Rattle.std.specs.Prelude.{IfSome}
 use Rattle.gettext.specs.declared.error.Error.{Error}
-use Rattle.gettext.specs.declared.error.Error.TheVariants.{BadMagic, DecodingError, Eof, Io, MalformedMetadata, MisplacedMetadata, PluralParsing, UnknownEncoding, TooLong, NoMemory}
+use Rattle.gettext.specs.declared.error.Error.TheVariants.{Io, NoMemory}
 use Rattle.gettext.specs.Options.{Options}
 use Rattle.gettext.specs.Messages.{Messages, StandsFor}
-use Rattle.gettext.specs.Mo.{IsInUtf8, entries, mo_fault, IsMoFault}
-use Rattle.gettext.specs.Sources.{IsParseError, IsReadFault, most_bytes}
+use Rattle.gettext.specs.Mo.{IsInUtf8, entries, mo_fault}
+use Rattle.gettext.specs.Sources.{IsReadFault, most_bytes, source_fault}
 use Rattle.gettext.specs.Table.{Held, messages_of}
 use Rattle.gettext.proofs.Faults.{is_mo_fault}
 use Rattle.gettext.proofs.Meaning.{meaning, has_meaning, only_memory}
@@ -31,19 +32,16 @@ module _ (left : Option (List ℕ)) (bytes : List ℕ) (o : Options) (within : l
   pub source_fails : (e : Error) → (e ≡ NoMemory) ⊎ (mo_fault bytes o ≡ Some e) → IfSome left (λ t. (c : Messages) → length t ≤ most_bytes → entries t o c → IsReadFault e)
   source_fails e h = told (λ t. (c : Messages) → length t ≤ most_bytes → entries t o c → IsReadFault e) (λ c le m. let memory = only_memory bytes o c e m h in rw memory tt)
 
-  -- a fault of the bytes
-  fault_caused : (before now : ℕ) (ended : Bool) (e : Error) → IsMoFault e → ended ≡ true → IfSome left (λ t. (length t ≤ most_bytes) × (mo_fault t o ≡ Some e)) → IsParseError o before now left ended e
-  fault_caused before now ended BadMagic is t h = (t, h)
-  fault_caused before now ended DecodingError is t h = (t, h)
-  fault_caused before now ended Eof is t h = (t, h)
-  fault_caused before now ended Io is t h = absurd is
-  fault_caused before now ended MalformedMetadata is t h = (t, h)
-  fault_caused before now ended MisplacedMetadata is t h = (t, h)
-  fault_caused before now ended PluralParsing is t h = (t, h)
-  fault_caused before now ended UnknownEncoding is t h = (t, h)
-  fault_caused before now ended TooLong is t h = absurd is
-  fault_caused before now ended NoMemory is t h = absurd is
+  pub source_is_faultless : mo_fault bytes o ≡ None → IfSome left (λ t. source_fault t o ≡ None)
+  source_is_faultless none = told (λ t. source_fault t o ≡ None) (rw (le-leb (length bytes) most_bytes within) none)
 
-  pub source_caused : (before now : ℕ) (ended : Bool) (e : Error) → ended ≡ true → (e ≡ NoMemory) ⊎ (mo_fault bytes o ≡ Some e) → IsParseError o before now left ended e
-  source_caused before now ended e t (inl memory) = rw memory tt
-  source_caused before now ended e t (inr h) = fault_caused before now ended e (is_mo_fault bytes o e h) t (told (λ t. (length t ≤ most_bytes) × (mo_fault t o ≡ Some e)) (within, h))
+  pub source_is_at_fault : (e : Error) → (e ≡ NoMemory) ⊎ (mo_fault bytes o ≡ Some e) → IfSome left (λ t. IsReadFault e ⊎ (source_fault t o ≡ Some e))
+  source_is_at_fault e h = told (λ t. IsReadFault e ⊎ (source_fault t o ≡ Some e)) (by_cause h) where
+    by_cause : (e ≡ NoMemory) ⊎ (mo_fault bytes o ≡ Some e) → IsReadFault e ⊎ (source_fault bytes o ≡ Some e)
+    by_cause (inl memory) = inl (rw memory tt)
+    by_cause (inr fault) = inr (rw (le-leb (length bytes) most_bytes within) fault)
+
+  -- a file isn't at fault for a source
+  pub source_is_not_at_fault : (e : Error) → (e ≡ NoMemory) ⊎ (mo_fault bytes o ≡ Some e) → e ≡ Io → ⊥
+  source_is_not_at_fault e (inl memory) io = absurd cc
+  source_is_not_at_fault e (inr fault) io = rw io at (is_mo_fault bytes o e fault)

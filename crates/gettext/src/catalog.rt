@@ -1,14 +1,15 @@
 //! Catalogs of messages, and the look-up of a message's form.
 
-ghost use Rattle.std.specs.Prelude.{◌≡◌, ℕ, ◌==◌, ◌⊎◌, ◌↔◌, ◌≤◌, List, [], length, true, false, Option, Some, None, Result, IfOk, IfErr, IfSome, OnOk, MatchResult, IsErrAnd, if◌then◌else◌};
+ghost use Rattle.std.specs.Prelude.{◌≡◌, ℕ, ◌==◌, ◌⊎◌, ◌↔◌, ◌≤◌, List, [], length, true, Option, Some, None, Result, IfOk, IfErr, IfSome, MatchResult, IsErrAnd, if◌then◌else◌};
 ghost use Rattle.std.specs.Option.{option_map};
 ghost use Rattle.std.specs.Str.{chars};
 ghost use Rattle.gettext.specs.declared.error.Error.{Error};
-ghost use Rattle.gettext.specs.declared.error.Error.TheVariants.{NoMemory};
+ghost use Rattle.gettext.specs.declared.error.Error.TheVariants.{Io, NoMemory};
+ghost use Rattle.writeable.specs.Sink.{Rose};
 ghost use Rattle.gettext.specs.Messages.{Messages, StandsFor, Default, key_of, numbered, numbered_within, form, count_of_forms, own_words, text_or};
 ghost use Rattle.gettext.specs.Mo.{IsInUtf8, IsMoFault, entries, mo_fault};
 ghost use Rattle.gettext.specs.Options.{Options, plain_options};
-ghost use Rattle.gettext.specs.Sources.{IsParseError, IsReadFault, most_bytes};
+ghost use Rattle.gettext.specs.Sources.{ComesAtEnd, IsReadFault, most_bytes, source_fault};
 ghost use Rattle.gettext.specs.Table.{IsRangeOf, messages_of};
 
 use crate::error::Error;
@@ -28,7 +29,7 @@ pub struct Catalog<P = FileRule> {
 }
 
 /// One form of a message.
-#[derive(Clone, Copy, Debug)]
+#[derive(Drop)]
 pub struct Form<'a> {
     /// Which of the message's forms it is, counted from 0.
     pub number: usize,
@@ -50,19 +51,24 @@ impl Catalog {
     /// The messages of an MO file that a source gives. The source is read to its end, and
     /// 67,108,864 bytes at most.
     pub fn parse<S: Source>(alloc: Global, source: &mut S) -> Result<Catalog, Error>
-        // What is read means something, and the source was read to its end.
-        ensures sound { IfOk result (λ catalog. IfSome (S.left source.old) (λ bytes. (length bytes ≤ most_bytes)
-            × (c : Messages) × entries bytes plain_options c × StandsFor (messages_of catalog.entries) c)) }
-        ensures ended { OnOk result (S.ended source.new ≡ true) }
-
-        // Each error has its cause.
-        ensures cause { IfErr result (IsParseError plain_options
-            (S.faults source.old) (S.faults source.new) (S.left source.old) (S.ended source.new)) }
+        // A file that means something is read as that, unless the source or memory fails.
         ensures ok { IfSome (S.left source.old) (λ bytes. (c : Messages) → length bytes ≤ most_bytes → entries bytes plain_options c
             → MatchResult result (λ catalog. StandsFor (messages_of catalog.entries) c) IsReadFault) }
-        ensures later { S.faults source.old ≤ S.faults source.new }
+
+        // What is read means something.
+        ensures sound { IfOk result (λ catalog. IfSome (S.left source.old) (λ bytes. (length bytes ≤ most_bytes)
+            × (c : Messages) × entries bytes plain_options c × StandsFor (messages_of catalog.entries) c)) }
         ensures buffer { IfOk result (λ catalog. IfSome (S.left source.old)
             (λ bytes. IsInUtf8 bytes plain_options → catalog.entries.buffer ≡ bytes)) }
+
+        // The answer is the one that the source's bytes have, unless the source or memory fails.
+        ensures exact { IfSome (S.left source.old) (λ bytes. MatchResult result (λ _. source_fault bytes plain_options ≡ None)
+            (λ e. IsReadFault e ⊎ (source_fault bytes plain_options ≡ Some e))) }
+        ensures io { IfErr result (λ e. e ≡ Io → Rose (S.faults source.old) (S.faults source.new)) }
+        ensures later { S.faults source.old ≤ S.faults source.new }
+
+        // The source was read to its end.
+        ensures ended { MatchResult result (λ _. S.ended source.new ≡ true) (λ e. ComesAtEnd e → S.ended source.new ≡ true) }
     {
         ParseOptions::new().parse(alloc, source)
     }

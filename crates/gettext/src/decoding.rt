@@ -1,7 +1,6 @@
 //! Texts in other encodings than UTF-8, decoded into a buffer of their own.
 
-ghost use Rattle.std.specs.Prelude.{◌≡◌, length, IfOk, OnOk};
-ghost use Rattle.std.specs.List.{AllByRecursion};
+ghost use Rattle.std.specs.Prelude.{IfOk};
 ghost use Rattle.gettext.specs.Decoding.{AreRowsIn, Decodes, DecodesRow};
 ghost use Rattle.gettext.specs.Reading.{IsRowIn};
 

@@ -20,7 +20,7 @@ use tokens::{Token, tokens_of};
 const HEIGHT_LIMIT: u32 = 64;
 
 /// A plural expression as a tree. Parentheses leave no node.
-#[derive(Debug, Drop, PartialEq)]
+#[derive(Drop, PartialEq)]
 pub enum Ast {
     /// The second where the first isn't 0, else the third.
     Ternary(Box<Ast>, Box<Ast>, Box<Ast>),

@@ -1,13 +1,14 @@
 //! Reading a whole MO file (GNU gettext manual, section 10.3).
 
-ghost use Rattle.std.specs.Prelude.{◌≡◌, ◌⊎◌, ◌≤◌, true, Some, None, length, IfOk, IfErr, IfSome, OnOk, IsErrAnd, MatchResult};
+ghost use Rattle.std.specs.Prelude.{◌≡◌, ◌⊎◌, ◌≤◌, true, Some, None, length, IfOk, IfErr, IfSome, IsErrAnd, MatchResult};
 ghost use Rattle.gettext.specs.declared.error.Error.{Error};
-ghost use Rattle.gettext.specs.declared.error.Error.TheVariants.{NoMemory};
+ghost use Rattle.gettext.specs.declared.error.Error.TheVariants.{Io, NoMemory};
+ghost use Rattle.writeable.specs.Sink.{Rose};
 ghost use Rattle.gettext.specs.Files.{AreFileRows, IsFile, buffer_of, is_in_utf8};
 ghost use Rattle.gettext.specs.Messages.{Messages, StandsFor};
 ghost use Rattle.gettext.specs.Mo.{IsInUtf8, entries, first_failure, all_rows_conditions, mo_fault};
 ghost use Rattle.gettext.specs.Reading.{GivesInMemory, IsHeader};
-ghost use Rattle.gettext.specs.Sources.{IsParseError, IsReadFault, most_bytes};
+ghost use Rattle.gettext.specs.Sources.{ComesAtEnd, IsReadFault, most_bytes, source_fault};
 ghost use Rattle.gettext.specs.Table.{messages_of};
 
 use crate::decoding::{Decoded, decode};
@@ -49,9 +50,10 @@ pub fn table_of_source<S: Source>(
 ) -> Result<Table, Error>
     ensures sound { IfOk result (λ table. IfSome (S.left source.old) (λ bytes. (length bytes ≤ most_bytes)
         × (c : Messages) × entries bytes options c × StandsFor (messages_of table) c)) }
-    ensures ended { OnOk result (S.ended source.new ≡ true) }
-    ensures cause { IfErr result (IsParseError options
-        (S.faults source.old) (S.faults source.new) (S.left source.old) (S.ended source.new)) }
+    ensures ended { MatchResult result (λ _. S.ended source.new ≡ true) (λ e. ComesAtEnd e → S.ended source.new ≡ true) }
+    ensures exact { IfSome (S.left source.old) (λ bytes. MatchResult result (λ _. source_fault bytes options ≡ None)
+        (λ e. IsReadFault e ⊎ (source_fault bytes options ≡ Some e))) }
+    ensures io { IfErr result (λ e. e ≡ Io → Rose (S.faults source.old) (S.faults source.new)) }
     ensures ok { IfSome (S.left source.old) (λ bytes. (c : Messages) → length bytes ≤ most_bytes → entries bytes options c
         → MatchResult result (λ table. StandsFor (messages_of table) c) IsReadFault) }
     ensures later { S.faults source.old ≤ S.faults source.new }

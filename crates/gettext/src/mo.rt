@@ -1,6 +1,6 @@
 //! Reading the bytes of an MO file (GNU gettext manual, section 10.3).
 
-ghost use Rattle.std.specs.Prelude.{◌≡◌, ◌==◌, ℕ, ◌+◌, ◌-◌, ◌≤◌, ◌<◌, ◌^◌, length, MatchResult, IfOk, Some, None};
+ghost use Rattle.std.specs.Prelude.{◌≡◌, ◌==◌, ◌+◌, ◌-◌, ◌≤◌, ◌<◌, length, IfOk};
 ghost use Rattle.std.specs.List.{list_all, position_or_len};
 ghost use Rattle.gettext.specs.Encoding.{is_valid};
 ghost use Rattle.gettext.specs.Messages.{has_id};

@@ -1,12 +1,13 @@
 //! Reading a catalog, with what overrules the file.
 
-ghost use Rattle.std.specs.Prelude.{◌≡◌, ℕ, ◌<◌, ◌≤◌, ◌^◌, ◌⊎◌, length, true, false, Some, None, Option, IfOk, IfErr, IfSome, OnOk, IsErrAnd, MatchResult};
+ghost use Rattle.std.specs.Prelude.{◌≡◌, ℕ, ◌<◌, ◌≤◌, ◌^◌, ◌⊎◌, length, true, false, Some, None, Option, IfOk, IfErr, IfSome, IsErrAnd, MatchResult};
 ghost use Rattle.gettext.specs.declared.error.Error.{Error};
-ghost use Rattle.gettext.specs.declared.error.Error.TheVariants.{NoMemory};
+ghost use Rattle.gettext.specs.declared.error.Error.TheVariants.{Io, NoMemory};
+ghost use Rattle.writeable.specs.Sink.{Rose};
 ghost use Rattle.gettext.specs.Messages.{Messages, StandsFor};
 ghost use Rattle.gettext.specs.Mo.{IsInUtf8, entries, mo_fault};
 ghost use Rattle.gettext.specs.Options.{options_of};
-ghost use Rattle.gettext.specs.Sources.{IsParseError, IsReadFault, most_bytes};
+ghost use Rattle.gettext.specs.Sources.{ComesAtEnd, IsReadFault, most_bytes, source_fault};
 ghost use Rattle.gettext.specs.Table.{messages_of};
 
 use crate::catalog::Catalog;
@@ -67,9 +68,10 @@ impl ParseOptions {
     pub fn parse<S: Source>(self, alloc: Global, source: &mut S) -> Result<Catalog, Error>
         ensures sound { IfOk result (λ catalog. IfSome (S.left source.old) (λ bytes. (length bytes ≤ most_bytes)
             × (c : Messages) × entries bytes (options_of self.encoding false) c × StandsFor (messages_of catalog.entries) c)) }
-        ensures ended { OnOk result (S.ended source.new ≡ true) }
-        ensures cause { IfErr result (IsParseError (options_of self.encoding false)
-            (S.faults source.old) (S.faults source.new) (S.left source.old) (S.ended source.new)) }
+        ensures ended { MatchResult result (λ _. S.ended source.new ≡ true) (λ e. ComesAtEnd e → S.ended source.new ≡ true) }
+        ensures exact { IfSome (S.left source.old) (λ bytes. MatchResult result (λ _. source_fault bytes (options_of self.encoding false) ≡ None)
+            (λ e. IsReadFault e ⊎ (source_fault bytes (options_of self.encoding false) ≡ Some e))) }
+        ensures io { IfErr result (λ e. e ≡ Io → Rose (S.faults source.old) (S.faults source.new)) }
         ensures ok { IfSome (S.left source.old)
             (λ bytes. (c : Messages) → length bytes ≤ most_bytes → entries bytes (options_of self.encoding false) c
             → MatchResult result (λ catalog. StandsFor (messages_of catalog.entries) c) IsReadFault) }
@@ -119,9 +121,10 @@ impl ParseOptions<PluralFunction> {
     ) -> Result<Catalog<PluralFunction>, Error>
         ensures sound { IfOk result (λ catalog. IfSome (S.left source.old) (λ bytes. (length bytes ≤ most_bytes)
             × (c : Messages) × entries bytes (options_of self.encoding true) c × StandsFor (messages_of catalog.entries) c)) }
-        ensures ended { OnOk result (S.ended source.new ≡ true) }
-        ensures cause { IfErr result (IsParseError (options_of self.encoding true)
-            (S.faults source.old) (S.faults source.new) (S.left source.old) (S.ended source.new)) }
+        ensures ended { MatchResult result (λ _. S.ended source.new ≡ true) (λ e. ComesAtEnd e → S.ended source.new ≡ true) }
+        ensures exact { IfSome (S.left source.old) (λ bytes. MatchResult result (λ _. source_fault bytes (options_of self.encoding true) ≡ None)
+            (λ e. IsReadFault e ⊎ (source_fault bytes (options_of self.encoding true) ≡ Some e))) }
+        ensures io { IfErr result (λ e. e ≡ Io → Rose (S.faults source.old) (S.faults source.new)) }
         ensures ok { IfSome (S.left source.old)
             (λ bytes. (c : Messages) → length bytes ≤ most_bytes → entries bytes (options_of self.encoding true) c
             → MatchResult result (λ catalog. StandsFor (messages_of catalog.entries) c) IsReadFault) }

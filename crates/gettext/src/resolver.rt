@@ -29,7 +29,7 @@ impl PluralFunction {
 }
 
 /// The plural rule that a file names, or else the default.
-#[derive(Clone, Copy, Debug)]
+#[derive(Drop)]
 pub struct FileRule;
 
 /// A plural rule.

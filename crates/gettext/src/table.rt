@@ -1,7 +1,7 @@
 //! How a catalog keeps its messages: one buffer of bytes, and a table of ranges in it in the order of
 //! the keys' bytes.
 
-ghost use Rattle.std.specs.Prelude.{◌≡◌, ℕ, ◌≤◌, ◌∷◌, [], length, encode_utf8_all, IfSome};
+ghost use Rattle.std.specs.Prelude.{◌≡◌, ◌≤◌, ◌∷◌, [], length, encode_utf8_all, IfSome};
 ghost use Rattle.std.specs.Option.{option_map};
 ghost use Rattle.std.specs.List.{slice_get, position_or_len};
 ghost use Rattle.std.specs.Ordering.{nat_cmp};

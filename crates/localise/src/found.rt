@@ -1,4 +1,4 @@
-ghost use Rattle.std.specs.Prelude.{◌≡◌, false, true, Some, None};
+ghost use Rattle.std.specs.Prelude.{◌≡◌, false, Some, None};
 ghost use Rattle.std.specs.Str.{chars};
 ghost use Rattle.localise.specs.Chosen.{own_words};
 ghost use Rattle.writeable.specs.Hint.{text_hint, byte_length, Hinted-exact};

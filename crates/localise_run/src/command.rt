@@ -1,5 +1,4 @@
-ghost use Rattle.std.specs.Prelude.{◌≡◌, ◌≤◌, ◌↔◌, ◌⊎◌, ℕ, List, [], true, length, Some, None, IsTrue, IfOk, IfErr, OnOk, IfSome};
-ghost use Rattle.std.specs.List.{AllByRecursion};
+ghost use Rattle.std.specs.Prelude.{◌≡◌, ◌≤◌, ◌↔◌, ◌⊎◌, List, true, length, Some, None, IsTrue, IfOk, IfErr, OnOk, IfSome};
 ghost use Rattle.writeable.specs.Sink.{TookPrefix, Rose};
 ghost use Rattle.reading.specs.Reading.{most_bytes};
 ghost use Rattle.localise.specs.Bundles.{Localises, refusal};

@@ -1,4 +1,4 @@
-ghost use Rattle.std.specs.Prelude.{◌++◌, [], ◌∷◌, OnOk, OnErr};
+ghost use Rattle.std.specs.Prelude.{OnOk, OnErr};
 ghost use Rattle.std.specs.List.{AllByRecursion};
 ghost use Rattle.writeable.specs.Sink.{TookPrefix, HasCause};
 ghost use Rattle.localise.specs.Kept.{meanings};
