@@ -1,5 +1,5 @@
 ghost use Rattle.std.specs.Prelude.{◌≡◌, [], IfOk};
-ghost use Rattle.writeable.specs.Spans.{Spans};
+ghost use Rattle.writeable_sinks.specs.Spans.{Spans};
 
 use crate::{PartsSink, TryWriteable, Writeable};
 use std::alloc::{AllocError, Global};

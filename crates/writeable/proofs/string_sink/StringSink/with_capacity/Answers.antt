@@ -1,6 +1,0 @@
--- A string without bytes has no characters.
-use Rattle.writeable.proofs.Texts.{chars-none}
-use Rattle.writeable.proofs.string_sink.StringSink.with_capacity.Goals as goal
-
-pub returns : goal.returns
-returns c = chars-none _ c.in_ok-with_capacity.ensures.bytes
