@@ -1,7 +1,11 @@
+//! What a value writes, with its parts. It serves tests.
+
 ghost use Rattle.std.specs.Prelude.{◌≡◌, [], IfOk};
 ghost use Rattle.writeable_sinks.specs.Spans.{Spans};
 
-use crate::{PartsSink, TryWriteable, Writeable};
+use writeable_adapters::TryWriteable;
+use writeable_core::Writeable;
+use writeable_sinks::PartsSink;
 use std::alloc::{AllocError, Global};
 
 /// What the value writes: its text, and where its parts lie. It serves tests.

@@ -1,10 +1,14 @@
+//! Values one after another.
+
 ghost use Rattle.std.specs.Prelude.{◌++◌, false};
 ghost use Rattle.writeable_core.specs.Hint.{hint_sum};
 ghost use Rattle.writeable_core.specs.HintLaws.{Hinted-append};
 ghost use Rattle.writeable_core.specs.MarksLaws.{characters-both, Nests-append};
-ghost use Rattle.writeable_adapters.specs.TryConcat.{followed, first_error, try_sum, followed-characters, followed-Nests, followed-Hinted};
+ghost use Rattle.writeable_adapters.specs.TryConcat.{followed, first_error, try_sum};
+ghost use Rattle.writeable_adapters.specs.TryConcatLaws.{followed-characters, followed-Nests, followed-Hinted};
 
-use crate::{LengthHint, PartsWrite, Sink, SinkError, TryWriteable, Writeable};
+use crate::TryWriteable;
+use writeable_core::{LengthHint, PartsWrite, Sink, SinkError, Writeable};
 
 /// One text, and then another.
 #[derive(Drop)]
@@ -61,20 +65,20 @@ impl<A: TryWriteable, B: TryWriteable<Error = A::Error>> TryWriteable for Concat
     ghost lends = { λ _. false };
 
     fn try_write_to<S: Sink>(&self, sink: &mut S) -> Result<Result<(), A::Error>, SinkError> {
-        if let Err(error) = self.0.try_write_to(sink)? {
-            return Ok(Err(error));
+        match self.0.try_write_to(sink)? {
+            Ok(()) => self.1.try_write_to(sink),
+            Err(error) => Ok(Err(error)),
         }
-        Ok(self.1.try_write_to(sink)?)
     }
 
     fn try_write_to_parts<P: PartsWrite>(
         &self,
         sink: &mut P,
     ) -> Result<Result<(), A::Error>, SinkError> {
-        if let Err(error) = self.0.try_write_to_parts(sink)? {
-            return Ok(Err(error));
+        match self.0.try_write_to_parts(sink)? {
+            Ok(()) => self.1.try_write_to_parts(sink),
+            Err(error) => Ok(Err(error)),
         }
-        Ok(self.1.try_write_to_parts(sink)?)
     }
 
     fn writeable_length_hint(&self) -> LengthHint {

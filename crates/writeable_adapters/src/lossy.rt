@@ -1,4 +1,5 @@
-use crate::{LengthHint, PartsWrite, Sink, SinkError, TryWriteable, Writeable};
+use crate::TryWriteable;
+use writeable_core::{LengthHint, PartsWrite, Sink, SinkError, Writeable};
 
 /// A value that may be wrong, written all the same: its error is dropped.
 #[derive(Drop)]

@@ -1,14 +1,20 @@
-ghost use Rattle.std.specs.Prelude.{◌≡◌, ℕ, List, Bool, true, false, Option, Some, None, IfOk, IfSome, OnOk, OnErr, MatchOption, MatchResult, ◌⊎◌, ◌↔◌, chars};
+//! Values that may mean an error, whose text is written in its place.
+
+ghost use Rattle.std.specs.Prelude.{◌≡◌, ℕ, List, Bool, true, false, Option, Some, None, IfOk, IfSome, OnOk, OnErr, MatchOption, MatchResult, ◌⊎◌, ◌↔◌, chars, string_bytes, []};
 ghost use Rattle.std.specs.Cow.{cow_str_bytes, IsBorrowedStr};
 ghost use Rattle.std.specs.Result.{result_err};
 ghost use Rattle.writeable_core.specs.Hint.{Hinted, byte_length};
-ghost use Rattle.writeable_core.specs.Marks.{Mark, Nests, characters};
+ghost use Rattle.writeable_core.specs.Marks.{Mark, Nests, characters, inside};
+ghost use Rattle.writeable_core.specs.MarksLaws.{Nests-inside, characters-inside};
 ghost use Rattle.writeable_core.specs.Sink.{TookPrefix, HasCause};
+ghost use Rattle.writeable_adapters.specs.Outcome.{either_of, error_part};
 ghost use Rattle.writeable_core.specs.declared.length_hint.LengthHint.{LengthHint};
 
-use crate::{CountSink, LengthHint, PartsWrite, Sink, SinkError, StringSink};
+use crate::parts_write_adapter::write_inside;
+use writeable_core::{LengthHint, Part, PartsWrite, Sink, SinkError, StringSink, Writeable};
 use std::alloc::{AllocError, Global};
 use std::borrow::CowStr;
+use std::convert::Infallible;
 
 /// A value that means one text, and may mean an error too. The text is written in both cases: with an
 /// error it is what is to be shown in place of the missing text.
@@ -78,18 +84,12 @@ pub trait TryWriteable {
             None => {}
         }
         let hint = self.writeable_length_hint();
-        if hint.is_zero() {
-            return match self.try_write_to(&mut CountSink::new()) {
-                Ok(Ok(())) => Ok(Ok(CowStr::Borrowed(""))),
-                Ok(Err(error)) => Ok(Err((error, CowStr::Borrowed("")))),
-                Err(_) => unreachable!(),
-            };
-        }
         let mut sink = StringSink::with_capacity(alloc, hint.capacity())?;
-        match self.try_write_to(&mut sink) {
-            Ok(Ok(())) => Ok(Ok(CowStr::Owned(sink.into_string()))),
-            Ok(Err(error)) => Ok(Err((error, CowStr::Owned(sink.into_string())))),
-            Err(_) => Err(AllocError),
+        let inner = self.try_write_to(&mut sink).map_err(|_| AllocError)?;
+        let text = written(hint, sink.into_string());
+        match inner {
+            Ok(()) => Ok(Ok(text)),
+            Err(error) => Ok(Err((error, text))),
         }
     }
 
@@ -98,4 +98,210 @@ pub trait TryWriteable {
     ghost marked_nests: { (s : Self) → Nests (marked s) };
 
     ghost text_hinted: { (s : Self) → Hinted (hint s) (byte_length (text s)) };
+}
+
+/// A text that was written, borrowed where the hint says that it is empty.
+fn written<'a>(hint: LengthHint, text: String) -> CowStr<'a>
+    requires { hint.1 ≡ Some 0 → chars (string_bytes text) ≡ [] }
+    ensures text { chars (cow_str_bytes result) ≡ chars (string_bytes text) }
+    ensures borrowed { IsBorrowedStr result ↔ (hint.1 ≡ Some 0) }
+{
+    if hint.is_zero() {
+        CowStr::Borrowed("")
+    } else {
+        CowStr::Owned(text)
+    }
+}
+
+impl<T: TryWriteable> TryWriteable for &T {
+    type Error = T::Error;
+
+    ghost text = { λ s. T.text s.now };
+
+    ghost marked = { λ s. T.marked s.now };
+
+    ghost error = { λ s. T.error s.now };
+
+    ghost hint = { λ s. T.hint s.now };
+
+    ghost lends = { λ s. T.lends s.now };
+
+    fn try_write_to<S: Sink>(&self, sink: &mut S) -> Result<Result<(), T::Error>, SinkError> {
+        (**self).try_write_to(sink)
+    }
+
+    fn try_write_to_parts<P: PartsWrite>(
+        &self,
+        sink: &mut P,
+    ) -> Result<Result<(), T::Error>, SinkError> {
+        (**self).try_write_to_parts(sink)
+    }
+
+    fn writeable_length_hint(&self) -> LengthHint {
+        (**self).writeable_length_hint()
+    }
+
+    fn try_writeable_borrow(&self) -> Option<Result<&str, (T::Error, &str)>> {
+        (**self).try_writeable_borrow()
+    }
+
+    ghost marked_text = { λ s. T.marked_text s.now };
+
+    ghost marked_nests = { λ s. T.marked_nests s.now };
+
+    ghost text_hinted = { λ s. T.text_hinted s.now };
+}
+
+/// A value, or an error that is shown in its place, as one part [`Part::ERROR`].
+impl<T: Writeable, E: Writeable + Copy> TryWriteable for Result<T, E> {
+    type Error = E;
+
+    ghost use Rattle.std.specs.Prelude.{Ok, Err};
+    ghost use Rattle.std.proofs.Common.{◌∙◌};
+
+    ghost text = { either_of T.text E.text };
+
+    ghost marked = { either_of T.marked (λ e. inside error_part (E.marked e)) };
+
+    ghost error = { result_err };
+
+    ghost hint = { either_of T.hint E.hint };
+
+    ghost lends = { either_of T.lends E.lends };
+
+    fn try_write_to<S: Sink>(&self, sink: &mut S) -> Result<Result<(), E>, SinkError> {
+        match self {
+            Ok(value) => {
+                value.write_to(sink)?;
+                Ok(Ok(()))
+            }
+            Err(error) => {
+                error.write_to(sink)?;
+                Ok(Err(*error))
+            }
+        }
+    }
+
+    fn try_write_to_parts<P: PartsWrite>(&self, sink: &mut P) -> Result<Result<(), E>, SinkError> {
+        match self {
+            Ok(value) => {
+                value.write_to_parts(sink)?;
+                Ok(Ok(()))
+            }
+            Err(error) => {
+                write_inside(Part::ERROR, error, sink)?;
+                Ok(Err(*error))
+            }
+        }
+    }
+
+    fn writeable_length_hint(&self) -> LengthHint {
+        match self {
+            Ok(value) => value.writeable_length_hint(),
+            Err(error) => error.writeable_length_hint(),
+        }
+    }
+
+    fn try_writeable_borrow(&self) -> Option<Result<&str, (E, &str)>> {
+        match self {
+            Ok(value) => Some(Ok(value.writeable_borrow()?)),
+            Err(error) => Some(Err((*error, error.writeable_borrow()?))),
+        }
+    }
+
+    ghost marked_text = { elim [ Ok x ↦ T.marked_text x | Err e ↦ characters-inside error_part (E.marked e) ∙ E.marked_text e ] };
+
+    ghost marked_nests = { elim [ Ok x ↦ T.marked_nests x | Err e ↦ Nests-inside error_part (E.marked e) (E.marked_nests e) ] };
+
+    ghost text_hinted = { elim [ Ok x ↦ T.text_hinted x | Err e ↦ E.text_hinted e ] };
+}
+
+/// A [`TryWriteable`] that has no error, as a [`Writeable`].
+#[derive(Drop)]
+pub struct TryWriteableInfallibleAsWriteable<T>(pub T);
+
+impl<T: TryWriteable<Error = Infallible>> Writeable for TryWriteableInfallibleAsWriteable<T> {
+    ghost text = { λ s. T.text s.0 };
+
+    ghost marked = { λ s. T.marked s.0 };
+
+    ghost hint = { λ s. T.hint s.0 };
+
+    ghost lends = { λ s. T.lends s.0 };
+
+    fn write_to<S: Sink>(&self, sink: &mut S) -> Result<(), SinkError> {
+        match self.0.try_write_to(sink)? {
+            Ok(()) => Ok(()),
+            Err(never) => match never {},
+        }
+    }
+
+    fn write_to_parts<P: PartsWrite>(&self, sink: &mut P) -> Result<(), SinkError> {
+        match self.0.try_write_to_parts(sink)? {
+            Ok(()) => Ok(()),
+            Err(never) => match never {},
+        }
+    }
+
+    fn writeable_length_hint(&self) -> LengthHint {
+        self.0.writeable_length_hint()
+    }
+
+    fn writeable_borrow(&self) -> Option<&str> {
+        match self.0.try_writeable_borrow()? {
+            Ok(text) => Some(text),
+            Err((never, _)) => match never {},
+        }
+    }
+
+    ghost marked_text = { λ s. T.marked_text s.0 };
+
+    ghost marked_nests = { λ s. T.marked_nests s.0 };
+
+    ghost text_hinted = { λ s. T.text_hinted s.0 };
+}
+
+/// A [`Writeable`] as a [`TryWriteable`] that has no error.
+#[derive(Drop)]
+pub struct WriteableAsTryWriteableInfallible<T>(pub T);
+
+impl<T: Writeable> TryWriteable for WriteableAsTryWriteableInfallible<T> {
+    type Error = Infallible;
+
+    ghost text = { λ s. T.text s.0 };
+
+    ghost marked = { λ s. T.marked s.0 };
+
+    ghost error = { λ _. None };
+
+    ghost hint = { λ s. T.hint s.0 };
+
+    ghost lends = { λ s. T.lends s.0 };
+
+    fn try_write_to<S: Sink>(&self, sink: &mut S) -> Result<Result<(), Infallible>, SinkError> {
+        self.0.write_to(sink)?;
+        Ok(Ok(()))
+    }
+
+    fn try_write_to_parts<P: PartsWrite>(
+        &self,
+        sink: &mut P,
+    ) -> Result<Result<(), Infallible>, SinkError> {
+        self.0.write_to_parts(sink)?;
+        Ok(Ok(()))
+    }
+
+    fn writeable_length_hint(&self) -> LengthHint {
+        self.0.writeable_length_hint()
+    }
+
+    fn try_writeable_borrow(&self) -> Option<Result<&str, (Infallible, &str)>> {
+        Some(Ok(self.0.writeable_borrow()?))
+    }
+
+    ghost marked_text = { λ s. T.marked_text s.0 };
+
+    ghost marked_nests = { λ s. T.marked_nests s.0 };
+
+    ghost text_hinted = { λ s. T.text_hinted s.0 };
 }

@@ -1,11 +1,9 @@
 -- A text that is compared with other bytes, a piece at a time.
-use Rattle.std.specs.Prelude.{◌≡◌, ℕ, ◌≤◌, List, [], ◌++◌, encode_utf8_all}
+use Rattle.std.specs.Prelude.{◌≡◌, ℕ, ◌≤◌, List, ◌++◌, encode_utf8_all}
 use Rattle.std.specs.Ordering.{nat_cmp, ordering_then}
 use Rattle.std.specs.Cmp.Lexicographic.{slice_cmp}
 use Rattle.std.specs.declared.cmp.Ordering.{Ordering}
 use Rattle.std.specs.declared.cmp.Ordering.TheVariants.{Less, Equal, Greater}
-use Rattle.std.proofs.Common.{refl, ap, ◌∙◌, append_assoc, arith}
-use Rattle.std.proofs.lemmas.Str.{encodes-append}
 
 -- the other bytes that are left, and the order of what was compared: Equal so far, or what decides
 pub record Comparison : Type 0 where
@@ -29,15 +27,3 @@ pub record ComparedBytes (before : Comparison) (bytes : List ℕ) (now : Compari
 
 abbrev pub Compared : Comparison → List ℕ → Comparison → Type 0
 Compared before text now = ComparedBytes before (encode_utf8_all text) now
-
-pub Compared-nothing : (s : Comparison) → Compared s [] s
-Compared-nothing s = record { outcome = λ more. refl; later = omega arith }
-
-pub Compared-both : (a b c : Comparison) (s t : List ℕ) → Compared a s b → Compared b t c → Compared a (s ++ t) c
-Compared-both a b c s t p q = record {
-  outcome = λ more.
-      ap (λ bytes. outcome a (bytes ++ more)) (encodes-append s t)
-      ∙ ap (outcome a) (append_assoc (encode_utf8_all s) (encode_utf8_all t) more)
-      ∙ p.outcome (encode_utf8_all t ++ more) ∙ q.outcome more;
-  later = omega (arith, p.later, q.later);
-}

@@ -2,10 +2,11 @@ ghost use Rattle.std.specs.Prelude.{◌≡◌, ℕ, ◌≤◌, List, [], false, 
 ghost use Rattle.std.specs.Ordering.{nat_cmp};
 ghost use Rattle.std.specs.Cmp.Lexicographic.{slice_cmp};
 ghost use Rattle.std.proofs.Common.{rules};
-ghost use Rattle.writeable_cmp.specs.Comparing.{outcome, decisions, Compared, ComparedBytes, Compared-nothing, Compared-both};
+ghost use Rattle.writeable_cmp.specs.Comparing.{outcome, decisions, Compared, ComparedBytes};
+ghost use Rattle.writeable_cmp.specs.ComparingLaws.{Compared-nothing, Compared-both};
 ghost use Rattle.writeable_core.specs.Sink.{HasCause};
 
-use crate::{Sink, SinkError, Writeable};
+use writeable_core::{Sink, SinkError, Writeable};
 use std::cmp::Ordering;
 use std::marker::Model;
 

@@ -1,7 +1,5 @@
 -- What a contract sees of a `ScriptSink`.
-use Rattle.std.specs.Prelude.{◌≡◌, ℕ, ◌+◌, ◌-◌, ◌^◌, ◌<◌, ◌≤◌, List, [], ◌++◌, Contains}
-use Rattle.std.proofs.Common.{arith, refl, ◌∙◌}
-use Rattle.writeable_core.specs.SinkLaws.{append_nothing, append_both}
+use Rattle.std.specs.Prelude.{◌≡◌, ℕ, ◌+◌, ◌-◌, ◌^◌, ◌<◌, ◌≤◌, List, ◌++◌, Contains}
 
 -- the text that it holds, the numbers of the pushes that fail, and how many pushes and faults there were
 pub record Script : Type 0 where
@@ -20,13 +18,3 @@ pub record Wrote (old : Script) (piece : List ℕ) (new : Script) : Type 0 where
   pub text : new.text ≡ old.text ++ piece
   pub failing : new.failing ≡ old.failing
   pub later : old.faults ≤ new.faults
-
-pub Wrote-nothing : (s : Script) → Wrote s [] s
-Wrote-nothing s = record { text = append_nothing s.text; failing = refl; later = omega arith }
-
-pub Wrote-both : (a b c : Script) (s t : List ℕ) → Wrote a s b → Wrote b t c → Wrote a (s ++ t) c
-Wrote-both a b c s t p q = record {
-  text = append_both a.text b.text c.text s t p.text q.text;
-  failing = q.failing ∙ p.failing;
-  later = omega (arith, p.later, q.later);
-}

@@ -1,10 +1,11 @@
 ghost use Rattle.std.specs.Prelude.{◌≡◌, ℕ, ◌≤◌, List, [], ◌∷◌, false, None, IsOk, OnOk, OnErr};
 ghost use Rattle.std.specs.Str.{chars};
 ghost use Rattle.std.proofs.Common.{rules};
-ghost use Rattle.writeable_sinks.specs.CountSink.{Counts, Counts-nothing, Counts-both};
+ghost use Rattle.writeable_sinks.specs.CountSink.{Counts};
+ghost use Rattle.writeable_sinks.specs.CountSinkLaws.{Counts-nothing, Counts-both};
 ghost use Rattle.writeable_core.specs.Sink.{TookPrefix, HasCause};
 
-use crate::{Sink, SinkError};
+use writeable_core::{Sink, SinkError};
 use std::marker::Model;
 
 /// A sink that counts the bytes of what it takes, up to the greatest `u64`. It tells no text, takes no

@@ -7,7 +7,7 @@ ghost use Rattle.writeable_sinks.specs.FixedSink.{Grew};
 ghost use Rattle.writeable_sinks.specs.FixedSinkLaws.{Grew-nothing, Grew-both};
 ghost use Rattle.writeable_core.specs.SinkLaws.{append_held};
 
-use crate::{Sink, SinkError};
+use writeable_core::{Sink, SinkError};
 use arrayvec::ArrayString;
 use std::marker::Model;
 

@@ -5,12 +5,21 @@ ghost use Rattle.writeable_core.specs.Sink.{TookPrefix, HasCause};
 ghost use Rattle.writeable_core.specs.SinkLaws.{append_held};
 ghost use Rattle.writeable_core.specs.Marks.{Open, Close, part_name};
 ghost use Rattle.writeable_sinks.specs.Spans.{span_of};
-ghost use Rattle.writeable_sinks.specs.PartsSink.{TookText, TookMarks, TookText-nothing, TookText-both, TookMarks-both, TookMarks-held, TookMarks-open, marks_of_text, text_of_marks, no_parts, with_span, Begun};
+ghost use Rattle.writeable_sinks.specs.PartsSink.{TookText, TookMarks, no_parts, with_span, Begun};
+ghost use Rattle.writeable_sinks.specs.PartsSinkLaws.{TookText-nothing, TookText-both, TookMarks-both, TookMarks-held, TookMarks-open, marks_of_text, text_of_marks};
 ghost use Rattle.writeable_sinks.specs.PartsFields.{begun_of};
 
-use crate::{Part, PartSpan, PartsWrite, Sink, SinkError};
+use writeable_core::{Part, PartsWrite, Sink, SinkError};
 use std::alloc::Global;
 use std::marker::Model;
+
+/// A part of a text and the bytes of the text that it spans: from `start` on, up to `end`.
+#[derive(Clone, Copy, Debug)]
+pub struct PartSpan {
+    pub start: usize,
+    pub end: usize,
+    pub part: Part,
+}
 
 /// A part that is open, and the byte that it began at.
 #[derive(Clone, Copy)]

@@ -3,9 +3,10 @@ ghost use Rattle.std.specs.Str.{chars};
 ghost use Rattle.std.proofs.Common.{rules};
 ghost use Rattle.writeable_core.specs.Sink.{TookPrefix, HasCause};
 ghost use Rattle.writeable_core.specs.SinkLaws.{append_held};
-ghost use Rattle.writeable_sinks.specs.ScriptSink.{IsNextListed, Wrote, Wrote-nothing, Wrote-both};
+ghost use Rattle.writeable_sinks.specs.ScriptSink.{IsNextListed, Wrote};
+ghost use Rattle.writeable_sinks.specs.ScriptSinkLaws.{Wrote-nothing, Wrote-both};
 
-use crate::{Sink, SinkError};
+use writeable_core::{Sink, SinkError};
 use std::alloc::Global;
 use std::marker::Model;
 

@@ -3,7 +3,7 @@ ghost use Rattle.std.specs.Io.KnownBytes.{Consumes, Keeps, IsAtEnd};
 ghost use Rattle.writeable_core.specs.Sink.{Rose};
 ghost use Rattle.writeable_sinks.specs.ScriptSource.{ReadScript, FailsNext};
 
-use crate::{Source, SourceFault};
+use writeable_core::{Source, SourceFault};
 use std::marker::Model;
 
 /// A source of the bytes of a slice that gives at most so many bytes a call, and fails at one call. It

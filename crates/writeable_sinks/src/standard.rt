@@ -4,7 +4,7 @@ ghost use Rattle.writeable_core.specs.Sink.{Rose};
 ghost use Rattle.writeable_core.specs.SinkLaws.{later_both};
 ghost use Rattle.writeable_sinks.specs.StdSource.{Reads};
 
-use crate::{Sink, SinkError, Source, SourceFault};
+use writeable_core::{Sink, SinkError, Source, SourceFault};
 use std::io::{Read, Write};
 use std::marker::Model;
 

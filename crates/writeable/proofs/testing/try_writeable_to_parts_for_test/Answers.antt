@@ -1,7 +1,7 @@
 -- The sink had taken nothing, and then took the value's marked text.
 use Rattle.std.proofs.Common.{◌∙◌, rules}
 use Rattle.writeable_sinks.specs.PartsSink.{TookMarks}
-use Rattle.writeable_sinks.proofs.SpansOf.{holds_taken}
+use Rattle.writeable_sinks.specs.SpansLaws.{holds_taken}
 use Rattle.writeable.proofs.testing.try_writeable_to_parts_for_test.Goals as goal
 
 pub returns-clause-text : goal.returns-clause-text

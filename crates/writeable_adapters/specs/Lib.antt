@@ -1,0 +1,4 @@
+pub mod Hints
+pub mod Outcome
+pub mod TryConcat
+pub mod TryConcatLaws

@@ -1,6 +1,0 @@
--- The front of the bytes is a text.
-use Rattle.std.proofs.lemmas.Str.{IsUtf8-from_is_utf8}
-use Rattle.writeable_cmp.proofs.to_string_or_borrow.front_of.Goals as goal
-
-pub unreachable-requires : goal.unreachable-requires
-unreachable-requires c = c.in-Err.ensures.cases.0 (IsUtf8-from_is_utf8 _ c.requires.text)

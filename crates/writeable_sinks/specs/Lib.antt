@@ -1,0 +1,13 @@
+pub mod CountSink
+pub mod CountSinkLaws
+pub mod FixedSink
+pub mod FixedSinkLaws
+pub mod PartsFields
+pub mod PartsSink
+pub mod PartsSinkLaws
+pub mod ScriptSink
+pub mod ScriptSinkLaws
+pub mod ScriptSource
+pub mod Spans
+pub mod SpansLaws
+pub mod StdSource
