@@ -10,4 +10,6 @@ pub mod ScriptSinkLaws
 pub mod ScriptSource
 pub mod Spans
 pub mod SpansLaws
+pub mod StdSink
+pub mod StdSinkLaws
 pub mod StdSource

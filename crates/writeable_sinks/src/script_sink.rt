@@ -1,4 +1,4 @@
-ghost use Rattle.std.specs.Prelude.{◌≡◌, ℕ, ◌+◌, ◌-◌, ◌^◌, ◌≤◌, ◌↔◌, min, List, [], ◌∷◌, ◌++◌, Bool, true, Some, IsErrOf, OnOk, OnErr, vec_len};
+ghost use Rattle.std.specs.Prelude.{◌≡◌, ℕ, ◌+◌, ◌-◌, ◌^◌, ◌≤◌, ◌↔◌, min, List, [], ◌∷◌, ◌++◌, Bool, true, Some, IsErrOf, OnOk, OnErr, vec_len, string_bytes};
 ghost use Rattle.std.specs.Str.{chars};
 ghost use Rattle.std.proofs.Common.{rules};
 ghost use Rattle.writeable_core.specs.Sink.{TookPrefix, HasCause};
@@ -50,6 +50,13 @@ impl ScriptSink {
         self.text.as_str()
     }
 
+    /// The text that it holds, without a copy.
+    pub fn into_string(self) -> String
+        ensures { chars (string_bytes result) ≡ self.text }
+    {
+        self.text
+    }
+
     /// Counts a push, and a fault where the push is one of those that fail.
     fn start_push(&mut self) -> Result<(), SinkError>
         ensures pushes { self.new ≡ record self.old { pushes = self.new.pushes; faults = self.new.faults } }
@@ -57,7 +64,7 @@ impl ScriptSink {
         ensures scripted { IsErrOf result SinkError.Fault ↔ IsNextListed self.old }
         ensures cause { HasCause self.old.faults self.new.faults true result }
         ensures later { self.old.faults ≤ self.new.faults }
-        ensures ok { OnOk result (self.new.faults ≡ self.old.faults) }
+        ensures no_fault { OnOk result (self.new.faults ≡ self.old.faults) }
         ensures memory { IsErrOf result SinkError.NoMemory → ⊥ }
     {
         let Some(number) = self.pushes.checked_add(1) else {
@@ -97,6 +104,7 @@ impl Sink for ScriptSink {
         ensures err { OnErr result (TookPrefix Wrote self.old (chars piece.now) self.new) }
         ensures kept { OnErr result (self.new.text ≡ self.old.text) }
         ensures cause { HasCause self.old.faults self.new.faults true result }
+        ensures no_fault { OnOk result (self.new.faults ≡ self.old.faults) }
         ensures scripted { IsErrOf result SinkError.Fault ↔ IsNextListed self.old }
         ensures next { self.new.pushes ≡ min (self.old.pushes + 1) (2 ^ 64 - 1) }
         ensures same_script { self.new.failing ≡ self.old.failing }
@@ -112,6 +120,7 @@ impl Sink for ScriptSink {
         ensures err { OnErr result (TookPrefix Wrote self.old (c ∷ []) self.new) }
         ensures kept { OnErr result (self.new.text ≡ self.old.text) }
         ensures cause { HasCause self.old.faults self.new.faults true result }
+        ensures no_fault { OnOk result (self.new.faults ≡ self.old.faults) }
         ensures scripted { IsErrOf result SinkError.Fault ↔ IsNextListed self.old }
         ensures next { self.new.pushes ≡ min (self.old.pushes + 1) (2 ^ 64 - 1) }
         ensures same_script { self.new.failing ≡ self.old.failing }

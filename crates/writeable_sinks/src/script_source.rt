@@ -1,4 +1,4 @@
-ghost use Rattle.std.specs.Prelude.{◌≡◌, ℕ, ◌+◌, ◌-◌, ◌^◌, ◌≤◌, ◌==◌, ◌<◌, ◌↔◌, min, Bool, false, List, length, take, Some, IsErr, IfOk, OnErr};
+ghost use Rattle.std.specs.Prelude.{◌≡◌, ℕ, ◌+◌, ◌-◌, ◌^◌, ◌≤◌, ◌==◌, ◌<◌, ◌↔◌, min, Bool, false, List, length, take, Some, IsErr, IfOk, OnOk, OnErr};
 ghost use Rattle.std.specs.Io.KnownBytes.{Consumes, Keeps, IsAtEnd};
 ghost use Rattle.writeable_core.specs.Sink.{Rose};
 ghost use Rattle.writeable_sinks.specs.ScriptSource.{ReadScript, FailsNext};
@@ -64,6 +64,7 @@ impl Source for ScriptSource<'_> {
         ensures mark_kept { OnErr result (self.new.ended ≡ self.old.ended) }
         ensures later { self.old.faults ≤ self.new.faults }
         ensures cause { OnErr result (Rose self.old.faults self.new.faults) }
+        ensures no_fault { OnOk result (self.new.faults ≡ self.old.faults) }
         ensures scripted { IsErr result ↔ FailsNext self.old }
         ensures gives { IfOk result (λ k. k ≡ min (length buffer.old) (min self.old.most (length self.old.bytes))) }
         ensures next { self.new.calls ≡ min (self.old.calls + 1) (2 ^ 64 - 1) }
