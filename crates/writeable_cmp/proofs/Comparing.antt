@@ -7,26 +7,10 @@ use Rattle.std.specs.Cmp.Lexicographic.{slice_cmp}
 use Rattle.std.specs.declared.cmp.Ordering.{Ordering}
 use Rattle.std.specs.declared.cmp.Ordering.TheVariants.{Less, Equal, Greater}
 use Rattle.writeable_cmp.specs.Comparing.{Comparison, outcome, decisions, ComparedBytes, Compared}
+use Rattle.writeable_core.specs.OrderingLaws.{slice_cmp-cut}
 use Rattle.writeable_core.specs.Sink.{TookPrefix, HasCause}
 use Rattle.writeable_core.specs.declared.sink.SinkError.{SinkError}
 use Rattle.writeable_core.specs.declared.sink.SinkError.TheVariants.{Fault, NoMemory}
-
-then-assoc : (a b c : Ordering) → ordering_then (ordering_then a b) c ≡ ordering_then a (ordering_then b c)
-then-assoc Less b c = refl
-then-assoc Equal b c = refl
-then-assoc Greater b c = refl
-
--- the first bytes of both, and then what is left
-cut : (n : ℕ) (p rest more : List ℕ) → n ≡ min (length p) (length rest)
-    → slice_cmp nat_cmp (p ++ more) rest ≡ ordering_then (slice_cmp nat_cmp p (take n rest)) (slice_cmp nat_cmp more (drop n rest))
-cut zero [] rest more e = refl
-cut zero (x ∷ p) [] more e = refl
-cut zero (x ∷ p) (y ∷ rest) more e = absurd (omega arith)
-cut (suc n) [] rest more e = absurd (omega arith)
-cut (suc n) (x ∷ p) [] more e = absurd (omega arith)
-cut (suc n) (x ∷ p) (y ∷ rest) more e =
-    ap (ordering_then (nat_cmp x y)) (cut n p rest more (omega arith))
-    ∙ sym (then-assoc (nat_cmp x y) (slice_cmp nat_cmp p (take n rest)) (slice_cmp nat_cmp more (drop n rest)))
 
 -- the next bytes, where nothing is decided yet
 pub compared_cut : (old now : Comparison) (p : List ℕ) (n : ℕ) → old.order ≡ Equal → n ≡ min (length p) (length old.rest)
@@ -34,7 +18,7 @@ pub compared_cut : (old now : Comparison) (p : List ℕ) (n : ℕ) → old.order
 compared_cut old now p n undecided e rest order = record {
   outcome = λ more.
       ap (λ o. ordering_then o (slice_cmp nat_cmp (p ++ more) old.rest)) undecided
-      ∙ cut n p old.rest more e
+      ∙ slice_cmp-cut n p old.rest more e
       ∙ ap (λ o. ordering_then o (slice_cmp nat_cmp more (drop n old.rest))) (sym order)
       ∙ ap (λ r. ordering_then now.order (slice_cmp nat_cmp more r)) (sym rest);
   later = subst (λ o. decisions o ≤ decisions now.order) (sym undecided) (omega arith);

@@ -1,4 +1,7 @@
-ghost use Rattle.std.specs.Prelude.{◌≡◌, OnOk, OnErr, chars};
+//! The decimal texts of numbers, and their lengths.
+
+ghost use Rattle.std.specs.Prelude.{◌≡◌, ◌≤◌, OnOk, OnErr, chars, length};
+ghost use Rattle.std.specs.Fmt.{decimal, signed_decimal};
 ghost use Rattle.writeable_core.specs.Hint.{text_hint};
 ghost use Rattle.writeable_core.specs.Sink.{TookPrefix, HasCause};
 
@@ -23,10 +26,31 @@ pub(super) fn write_number<N: Integer, S: Sink>(number: N, sink: &mut S) -> Resu
     Ok(())
 }
 
-/// The length of a number's decimal text.
-pub(super) fn number_hint<N: Integer>(number: N) -> LengthHint
-    ensures { result ≡ text_hint (N.text number) }
+/// How many digits a number has.
+fn digits(number: u128) -> usize
+    ensures count { result ≡ length (decimal number) }
+    ensures few { result ≤ 39 }
 {
-    let mut buffer = Buffer::new();
-    LengthHint::of(decimal_text(number, &mut buffer))
+    match number.checked_ilog10() {
+        Some(power) => power as usize + 1,
+        None => 1,
+    }
+}
+
+/// The length of a number's decimal text. The text isn't made.
+pub(super) fn unsigned_hint(number: u128) -> LengthHint
+    ensures { result ≡ text_hint (decimal number) }
+{
+    LengthHint::exact(digits(number))
+}
+
+/// The length of a number's decimal text, its sign included. The text isn't made.
+pub(super) fn signed_hint(number: i128) -> LengthHint
+    ensures { result ≡ text_hint (signed_decimal number) }
+{
+    let count = digits(number.unsigned_abs());
+    if number < 0 {
+        return LengthHint::exact(count + 1);
+    }
+    LengthHint::exact(count)
 }

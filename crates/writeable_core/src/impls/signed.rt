@@ -1,3 +1,5 @@
+//! Signed numbers, in decimal: a minus sign stands before a negative one.
+
 ghost use Rattle.std.specs.Prelude.{◌≡◌, false};
 ghost use Rattle.std.specs.Fmt.{signed_decimal};
 ghost use Rattle.writeable_core.specs.Hint.{text_hint, byte_length};
@@ -5,7 +7,7 @@ ghost use Rattle.writeable_core.specs.HintLaws.{Hinted-exact};
 ghost use Rattle.writeable_core.specs.Marks.{plain};
 ghost use Rattle.writeable_core.specs.MarksLaws.{characters-plain, Nests-plain};
 
-use super::numbers::{number_hint, write_number};
+use super::numbers::{signed_hint, write_number};
 use crate::{LengthHint, PartsWrite, Sink, SinkError, Writeable};
 
 impl Writeable for i8 {
@@ -26,7 +28,7 @@ impl Writeable for i8 {
     }
 
     fn writeable_length_hint(&self) -> LengthHint {
-        number_hint(*self)
+        signed_hint(*self as i128)
     }
 
     fn writeable_borrow(&self) -> Option<&str> {
@@ -58,7 +60,7 @@ impl Writeable for i16 {
     }
 
     fn writeable_length_hint(&self) -> LengthHint {
-        number_hint(*self)
+        signed_hint(*self as i128)
     }
 
     fn writeable_borrow(&self) -> Option<&str> {
@@ -90,7 +92,7 @@ impl Writeable for i32 {
     }
 
     fn writeable_length_hint(&self) -> LengthHint {
-        number_hint(*self)
+        signed_hint(*self as i128)
     }
 
     fn writeable_borrow(&self) -> Option<&str> {
@@ -122,7 +124,7 @@ impl Writeable for i64 {
     }
 
     fn writeable_length_hint(&self) -> LengthHint {
-        number_hint(*self)
+        signed_hint(*self as i128)
     }
 
     fn writeable_borrow(&self) -> Option<&str> {
@@ -154,7 +156,7 @@ impl Writeable for i128 {
     }
 
     fn writeable_length_hint(&self) -> LengthHint {
-        number_hint(*self)
+        signed_hint(*self)
     }
 
     fn writeable_borrow(&self) -> Option<&str> {
@@ -186,7 +188,7 @@ impl Writeable for isize {
     }
 
     fn writeable_length_hint(&self) -> LengthHint {
-        number_hint(*self)
+        signed_hint(*self as i128)
     }
 
     fn writeable_borrow(&self) -> Option<&str> {
