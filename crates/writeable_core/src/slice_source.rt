@@ -1,4 +1,4 @@
-ghost use Rattle.std.specs.Prelude.{◌≡◌, ℕ, ◌≤◌, ◌==◌, ◌<◌, Bool, false, List, length, take, Some, IsOk, IfOk, OnErr};
+ghost use Rattle.std.specs.Prelude.{◌≡◌, ℕ, ◌≤◌, ◌==◌, ◌<◌, Bool, false, List, length, take, Some, IsOk, IfOk, OnOk, OnErr};
 ghost use Rattle.std.specs.Io.KnownBytes.{Consumes, Keeps, IsAtEnd};
 ghost use Rattle.writeable_core.specs.Sink.{Rose};
 ghost use Rattle.writeable_core.specs.SliceSource.{Unread};
@@ -46,6 +46,7 @@ impl Source for SliceSource<'_> {
         ensures end { IfOk result (λ k. 0 < length buffer.old → k ≡ 0 → IsAtEnd (Some self.new.bytes)) }
         ensures mark { IfOk result (λ k. 0 < length buffer.old → self.new.ended ≡ (k == 0)) }
         ensures empty { length buffer.old ≡ 0 → self.new.ended ≡ self.old.ended }
+        ensures no_fault { OnOk result (◌≡◌ {A = ℕ} 0 0) }
         ensures kept { OnErr result (Keeps (Some self.old.bytes) (Some self.new.bytes)) }
         ensures mark_kept { OnErr result (self.new.ended ≡ self.old.ended) }
         ensures later { 0 ≤ 0 }

@@ -1,4 +1,4 @@
-ghost use Rattle.std.specs.Prelude.{◌≡◌, ℕ, ◌<◌, ◌≤◌, ◌==◌, Bool, List, length, take, Option, IfOk, OnErr};
+ghost use Rattle.std.specs.Prelude.{◌≡◌, ℕ, ◌<◌, ◌≤◌, ◌==◌, Bool, List, length, take, Option, IfOk, OnOk, OnErr};
 ghost use Rattle.std.specs.Io.KnownBytes.{Consumes, Keeps, IsAtEnd};
 ghost use Rattle.writeable_core.specs.Sink.{Rose};
 
@@ -38,6 +38,7 @@ pub trait Source {
         ensures end { IfOk result (λ k. 0 < length buffer.old → k ≡ 0 → IsAtEnd (left self.new)) }
         ensures mark { IfOk result (λ k. 0 < length buffer.old → ended self.new ≡ (k == 0)) }
         ensures empty { length buffer.old ≡ 0 → ended self.new ≡ ended self.old }
+        ensures no_fault { OnOk result (faults self.new ≡ faults self.old) }
         ensures kept { OnErr result (Keeps (left self.old) (left self.new)) }
         ensures mark_kept { OnErr result (ended self.new ≡ ended self.old) }
         ensures later { faults self.old ≤ faults self.new }
