@@ -1,8 +1,12 @@
+pub mod FirstFailure
+pub mod FirstFailureLaws
 pub mod Hint
 pub mod HintLaws
 pub mod Marks
 pub mod MarksLaws
+pub mod OrderingLaws
 pub mod Sink
 pub mod SinkLaws
 pub mod SliceSource
 pub mod TextLaws
+pub mod Texts

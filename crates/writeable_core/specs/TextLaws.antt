@@ -1,9 +1,12 @@
--- The characters of a text that grows.
+-- The characters of a text that grows, and texts that are one.
 use Rattle.std.proofs.Common.{◌≡◌, ℕ, List, [], ◌∷◌, ◌++◌, sym, ap, ◌∙◌, append-nil, length, true, subst, string_bytes, String}
 use Rattle.std.specs.Char.{IsScalar}
-use Rattle.std.specs.Str.{chars, IsUtf8, is_utf8}
+use Rattle.std.specs.Cmp.{both_ways}
+use Rattle.std.specs.Str.{bytes_eq, chars, IsUtf8, is_utf8}
 use Rattle.std.proofs.lemmas.Str.{chars-nil, chars-append, chars_past_char, IsUtf8-append, IsUtf8-encode, IsUtf8-from_is_utf8, IsUtf8-string_bytes, is_utf8-from_IsUtf8, encodes-chars}
+use Rattle.std.proofs.lemmas.Slice.Eq.{bytes_eq-Decides}
 use Rattle.writeable_core.specs.Hint.{byte_length}
+use Rattle.writeable_core.specs.Texts.{same_text}
 use lib.Utf8.{encode, encodes}
 
 -- no byte, no character
@@ -40,3 +43,10 @@ byte_length-char c = ap length (append-nil (encode c))
 pub is_utf8-append : (s piece t : List ℕ) → is_utf8 s ≡ true → IsUtf8 piece → t ≡ s ++ piece → is_utf8 t ≡ true
 is_utf8-append s piece t held utf8 e =
     is_utf8-from_IsUtf8 t (subst IsUtf8 (sym e) (IsUtf8-append s piece (IsUtf8-from_is_utf8 s held) utf8))
+
+-- texts of one list of characters are of one list of bytes
+pub bytes_eq-chars : (a b : List ℕ) → IsUtf8 a → IsUtf8 b → bytes_eq a b ≡ same_text (chars a) (chars b)
+bytes_eq-chars a b ua ub =
+    both_ways (bytes_eq a b) (same_text (chars a) (chars b))
+    (λ e. (bytes_eq-Decides (chars a) (chars b)).1 (ap chars ((bytes_eq-Decides a b).0 e)))
+    (λ e. (bytes_eq-Decides a b).1 (sym (encodes-chars a ua) ∙ ap encodes ((bytes_eq-Decides (chars a) (chars b)).0 e) ∙ encodes-chars b ub))
