@@ -5,7 +5,7 @@ use Rattle.std.proofs.lemmas.Slice.Eq.{bytes_eq-Decides}
 use Rattle.gettext.specs.declared.table.Row.{Row}
 use Rattle.gettext.specs.declared.rule.PluralRule.{PluralRule}
 use Rattle.gettext.specs.Optional.{◌>>=◌}
-use Rattle.gettext.specs.Texts.{same_text}
+use Rattle.writeable_core.specs.Texts.{same_text}
 use Rattle.gettext.specs.Messages.{Message, Messages, Rule, Default, Expr, Function, StandsFor, lookup, has_id, header_of, plurals_named, bound, bound_by, is_within, numbered, numbered_within}
 use Rattle.gettext.specs.Table.{Held, held, messages_of, HasOneHeader, Keeps}
 use Rattle.gettext.proofs.Lookups.{numbered-stands}

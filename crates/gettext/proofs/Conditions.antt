@@ -7,45 +7,16 @@ use Rattle.std.specs.Prelude.{◌==◌}
 use Rattle.std.proofs.lemmas.Bool.{cases_lt, lt-ltb, le-ltb, eq-eqb, ne_eqb, eqb-true, eqb-false}
 use Rattle.std.proofs.lemmas.List.Folds.{length-prefix_len}
 use Rattle.std.proofs.lemmas.List.{get_or-take, get_or-drop, length-take}
+use Rattle.writeable_core.specs.FirstFailure.{first_failure}
+use Rattle.writeable_core.specs.FirstFailureLaws.{failed_first, passed_first}
 use Rattle.gettext.specs.declared.error.Error.{Error}
 use Rattle.gettext.specs.declared.error.Error.TheVariants.{DecodingError, Eof, MisplacedMetadata}
 use Rattle.gettext.specs.declared.encoding.Encoding.{Encoding}
 use Rattle.gettext.specs.Encoding.{is_valid}
 use Rattle.gettext.specs.Messages.{has_id, ends_context}
-use Rattle.gettext.specs.Mo.{Condition, first_failure, is_big_endian, number, is_nul, head_of, head_conditions}
-
-still_fails : (b : Bool) (x y : Option Error) (d e : Error) → (x ≡ Some e → y ≡ Some e) → cond b x (Some d) ≡ Some e → cond b y (Some d) ≡ Some e
-still_fails true x y d e f h = f h
-still_fails false x y d e f h = h
-
-still_passes : (b : Bool) (x y z : Option Error) (d : Error) → (x ≡ None → y ≡ z) → cond b x (Some d) ≡ None → cond b y (Some d) ≡ z
-still_passes true x y z d f h = f h
-still_passes false x y z d f h = absurd cc
+use Rattle.gettext.specs.Mo.{is_big_endian, number, is_nul, head_of, head_conditions}
 
 -- conditions behind others
-pub failed_first : (xs ys : List Condition) (e : Error) → first_failure xs ≡ Some e → first_failure (xs ++ ys) ≡ Some e
-failed_first [] ys e h = absurd cc
-failed_first (c ∷ cs) ys e h = still_fails c.0 (first_failure cs) (first_failure (cs ++ ys)) c.1 e (failed_first cs ys e) h
-
-pub passed_first : (xs ys : List Condition) → first_failure xs ≡ None → first_failure (xs ++ ys) ≡ first_failure ys
-passed_first [] ys h = refl
-passed_first (c ∷ cs) ys h = still_passes c.0 (first_failure cs) (first_failure (cs ++ ys)) (first_failure ys) c.1 (passed_first cs ys) h
-
-first_passes : (b : Bool) (x : Option Error) (d : Error) → cond b x (Some d) ≡ None → (b ≡ true) × (x ≡ None)
-first_passes true x d h = (refl, h)
-first_passes false x d h = absurd cc
-
--- the first of some conditions, and the others
-pub head_passes : (c : Condition) (cs : List Condition) → first_failure (c ∷ cs) ≡ None → (c.0 ≡ true) × (first_failure cs ≡ None)
-head_passes c cs h = first_passes c.0 (first_failure cs) c.1 h
-
-pub parts_pass : (xs ys : List Condition) → first_failure (xs ++ ys) ≡ None → (first_failure xs ≡ None) × (first_failure ys ≡ None)
-parts_pass [] ys h = (refl, h)
-parts_pass (c ∷ cs) ys h =
-    let first = head_passes c (cs ++ ys) h in
-    let rest = parts_pass cs ys first.1 in
-    (rw first.0 rest.0, rest.1)
-
 pub ruleset by_parts = (failed_first, passed_first)
 
 -- a number, read byte by byte

@@ -1,8 +1,10 @@
 -- Rows whose texts are decoded into a buffer of their own.
 use Rattle.std.proofs.Common.{◌≡◌, ℕ, ◌+◌, ◌-◌, ◌≤◌, Bool, true, false, ◌&&◌, List, [], ◌∷◌, ◌++◌, length, take, drop, map, refl, sym, ap, ◌∙◌, arith, append_assoc}
+use Rattle.std.proofs.lemmas.Bool.{and_parts}
 use Rattle.std.specs.List.{list_all, AllByRecursion}
 use Rattle.std.specs.Str.{is_utf8, chars}
-use Rattle.std.proofs.lemmas.List.{append-nil, length-append, take-append-le, drop-append-le, take_all, length-drop}
+use Rattle.std.proofs.Math.Seq.{take-append_seam, drop-append_seam}
+use Rattle.std.proofs.lemmas.List.{append-nil, map-append, length-append, take-append-le, drop-append-le, take_all, length-drop}
 use Rattle.gettext.specs.declared.encoding.Encoding.{Encoding}
 use Rattle.gettext.specs.declared.table.Row.{Row}
 use Rattle.gettext.specs.declared.table.Span.{Span}
@@ -11,6 +13,7 @@ use Rattle.gettext.specs.Mo.{pieces_of}
 use Rattle.gettext.specs.Table.{LiesIn, bytes_at, key_bytes, form_bytes, message_at, IsRowOf}
 use Rattle.gettext.specs.Reading.{IsRowIn}
 use Rattle.gettext.specs.Decoding.{AreRowsIn, decoded_message, decoded_messages, DecodesRow, Decodes}
+use Rattle.gettext.proofs.Lists.{AllByRecursion-push}
 use Rattle.gettext.proofs.Encodings.{AreBytes, AreBytes-range, AreBytes-slice_split, is_utf8-utf8_in, chars-utf8_in, slice_split-utf8_in}
 
 -- ---- more texts behind
@@ -52,14 +55,6 @@ rows-more old more (r ∷ rows) all =
 
 -- ---- a decoded row
 
-drop_front : (xs ys : List ℕ) → drop (length xs) (xs ++ ys) ≡ ys
-drop_front [] ys = refl
-drop_front (x ∷ xs) ys = drop_front xs ys
-
-take_front : (xs ys : List ℕ) → take (length xs) (xs ++ ys) ≡ xs
-take_front [] ys = refl
-take_front (x ∷ xs) ys = ap (λ (zs : List ℕ). x ∷ zs) (take_front xs ys)
-
 pieces-utf8_in : (e : Encoding) (bytes : List ℕ) → pieces_of (utf8_in e bytes) ≡ map (utf8_in e) (pieces_of bytes)
 unfolding pieces_of
 pieces-utf8_in e bytes = slice_split-utf8_in e bytes
@@ -68,15 +63,11 @@ pieces-bytes : (bytes : List ℕ) → AreBytes bytes → AllByRecursion AreBytes
 unfolding pieces_of
 pieces-bytes bytes h = AreBytes-slice_split bytes h
 
-both_true : (a b : Bool) → (a && b) ≡ true → (a ≡ true) × (b ≡ true)
-both_true true b e = (refl, e)
-both_true false b e = absurd cc
-
 pub pieces_decoded : (e : Encoding) (pieces : List (List ℕ)) → AllByRecursion AreBytes pieces → list_all (is_valid e) pieces ≡ true
     → (list_all is_utf8 (map (utf8_in e) pieces) ≡ true) × (map chars (map (utf8_in e) pieces) ≡ map (text_in e) pieces)
 pieces_decoded e [] bytes valid = (refl, refl)
 pieces_decoded e (p ∷ pieces) bytes valid =
-    let both = both_true (is_valid e p) (list_all (is_valid e) pieces) valid in
+    let both = and_parts (is_valid e p) (list_all (is_valid e) pieces) valid in
     let rest = pieces_decoded e pieces bytes.1 both.1 in
     (rw (is_utf8-utf8_in e p bytes.0 both.0) rest.0, rw (chars-utf8_in e p bytes.0 both.0, rest.1) refl)
 
@@ -94,7 +85,7 @@ module _ (b : List ℕ) (e : Encoding) (r : Row) (old new : List ℕ) (d : Row) 
   unfolding key_bytes
   key_is =
       let size : d.key.end - d.key.start ≡ length key = omega (arith, x.key_start, x.key_end) in
-      rw (size, x.key_start, x.texts, drop_front old (key ++ forms)) (take_front key forms)
+      rw (size, x.key_start, x.texts, drop-append_seam old (key ++ forms)) (take-append_seam key forms)
 
   forms_are : form_bytes new d ≡ pieces_of forms
   unfolding form_bytes
@@ -102,7 +93,7 @@ module _ (b : List ℕ) (e : Encoding) (r : Row) (old new : List ℕ) (d : Row) 
       let start : d.forms.start ≡ length (old ++ key) = omega (arith, x.forms_start, x.key_end, length-append old key) in
       let size : d.forms.end - d.forms.start ≡ length forms = omega (arith, x.forms_end, x.forms_start, x.key_end, total) in
       let whole : new ≡ (old ++ key) ++ forms = x.texts ∙ sym (append_assoc old key forms) in
-      rw (size, start, whole, drop_front (old ++ key) forms) (ap pieces_of (take_all (length forms) forms (omega arith)))
+      rw (size, start, whole, drop-append_seam (old ++ key) forms) (ap pieces_of (take_all (length forms) forms (omega arith)))
 
   decoded_forms : (list_all is_utf8 (form_bytes new d) ≡ true) × (map chars (form_bytes new d) ≡ map (text_in e) (form_bytes b r))
   unfolding form_bytes
@@ -149,14 +140,6 @@ pub record IsDecoding (b : List ℕ) (first later : Encoding) (rows : List Row) 
 pub none_decoded : (b : List ℕ) (first later : Encoding) (rows : List Row) → AreRowsIn b first later rows → IsDecoding b first later rows [] [] first rows
 none_decoded b first later rows h = record { left_fit = h; fit = tt; messages = refl }
 
-all-push : {X : Type 0} (P : X → Type 0) (xs : List X) (x : X) → AllByRecursion P xs → P x → AllByRecursion P (xs ++ x ∷ [])
-all-push P [] x all p = (p, tt)
-all-push P (y ∷ ys) x all p = (all.0, all-push P ys x all.1 p)
-
-map-push : {X Y : Type 0} (f : X → Y) (xs : List X) (x : X) → map f (xs ++ x ∷ []) ≡ map f xs ++ f x ∷ []
-map-push f [] x = refl
-map-push {Y = Y} f (y ∷ ys) x = ap (λ (zs : List Y). f y ∷ zs) (map-push f ys x)
-
 pub row_decoded : (b : List ℕ) (first later : Encoding) (rows : List Row) (texts new : List ℕ) (decoded : List Row) (e : Encoding) (r d : Row) (left : List Row) → AreBytes b → IsDecoding b first later rows texts decoded e (r ∷ left)
     → DecodesRow b e r texts new d → IsDecoding b first later rows new (decoded ++ d ∷ []) later left
 row_decoded b first later rows texts new decoded e r d left bytes h x =
@@ -166,8 +149,8 @@ row_decoded b first later rows texts new decoded e r d left bytes h x =
     let this = decoded_is b e r texts new d bytes h.left_fit.0 x in
     record {
       left_fit = h.left_fit.1;
-      fit = all-push (IsRowOf new) decoded d fits (decoded_fits b e r texts new d bytes h.left_fit.0 x);
-      messages = rw (map-push (message_at new) decoded d, same, this) (append_assoc (map (message_at texts) decoded) (decoded_message b e r ∷ []) (decoded_messages b later later left) ∙ h.messages);
+      fit = AllByRecursion-push (IsRowOf new) decoded d fits (decoded_fits b e r texts new d bytes h.left_fit.0 x);
+      messages = rw (map-append (message_at new) decoded (d ∷ []), same, this) (append_assoc (map (message_at texts) decoded) (decoded_message b e r ∷ []) (decoded_messages b later later left) ∙ h.messages);
     }
 
 pub all_decoded : (b : List ℕ) (first later : Encoding) (rows : List Row) (texts : List ℕ) (decoded : List Row) (e : Encoding) (left : List Row) → left ≡ [] → IsDecoding b first later rows texts decoded e left → Decodes b first later rows texts decoded

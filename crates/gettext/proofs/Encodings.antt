@@ -6,7 +6,7 @@ use Rattle.std.specs.Prelude.{nat_le, encode_utf8, encode_utf8_all}
 use Rattle.std.specs.Result.{MatchResult, is_ok}
 use Rattle.std.specs.Str.{is_utf8, IsUtf8, all_scalars, chars, IsTrimAscii}
 use Rattle.std.proofs.Math.Utf8.{scalar, low_scalar}
-use Rattle.std.proofs.lemmas.Bool.{le-leb, lt-leb, eqb-true, eqb-false, false_from_ne_true}
+use Rattle.std.proofs.lemmas.Bool.{and_parts, le-leb, lt-leb, eqb-true, eqb-false, false_from_ne_true}
 use Rattle.std.proofs.lemmas.List.{map-id, get_or-drop, get_or_default, append-nil, take_more}
 use Rattle.std.proofs.lemmas.List.Splits.{slice_split-cons_no}
 use Rattle.std.proofs.lemmas.Str.{IsUtf8-from_is_utf8, is_utf8-from_IsUtf8, scalars-chars, encodes-chars, chars_from_encodes, chars-encodes, encode_ascii, inside_one}
@@ -54,14 +54,10 @@ AreBytes-slice_split (x ∷ xs) h = at_head (is_nul x) (AreBytes-slice_split xs 
 
 -- ---- windows-1252
 
-both_true : (a b : Bool) → (a && b) ≡ true → (a ≡ true) × (b ≡ true)
-both_true true b e = (refl, e)
-both_true false b e = absurd cc
-
 passes_at : (p : ℕ → Bool) (xs : List ℕ) (i d : ℕ) → list_all p xs ≡ true → p d ≡ true → p (get_or xs i d) ≡ true
 passes_at p [] i d all h = h
-passes_at p (x ∷ xs) zero d all h = (both_true (p x) (list_all p xs) all).0
-passes_at p (x ∷ xs) (suc i) d all h = passes_at p xs i d (both_true (p x) (list_all p xs) all).1 h
+passes_at p (x ∷ xs) zero d all h = (and_parts (p x) (list_all p xs) all).0
+passes_at p (x ∷ xs) (suc i) d all h = passes_at p xs i d (and_parts (p x) (list_all p xs) all).1 h
 
 -- what holds of the high characters and of the byte holds of the byte's character
 pub windows_1252_passes : (p : ℕ → Bool) (byte : ℕ) → list_all p high_characters ≡ true → p byte ≡ true → p (windows_1252 byte) ≡ true

@@ -1,23 +1,24 @@
 -- The faults of a file are seven.
 use Rattle.std.proofs.Common.{◌≡◌, ℕ, zero, suc, Bool, true, false, cond, List, [], ◌∷◌, ◌++◌, Option, Some, subst}
 use Rattle.std.specs.List.{AllByRecursion}
+use Rattle.writeable_core.specs.FirstFailure.{Condition, first_failure}
 use Rattle.gettext.specs.declared.error.Error.{Error}
 use Rattle.gettext.specs.declared.encoding.Encoding.{Encoding}
 use Rattle.gettext.specs.Metadata.{Field}
 use Rattle.gettext.specs.Options.{Options}
-use Rattle.gettext.specs.Mo.{IsMoFault, Condition, first_failure, header_conditions, text_conditions, head_conditions, forms_conditions, original_conditions, translation_conditions, row_conditions, rows_conditions, metadata_conditions, all_rows_conditions, mo_fault, originals_of, translations_of, original_of, translation_of, count_of, first_encoding, later_encoding, fields_in_file}
+use Rattle.gettext.specs.Mo.{IsMoFault, header_conditions, text_conditions, head_conditions, forms_conditions, original_conditions, translation_conditions, row_conditions, rows_conditions, metadata_conditions, all_rows_conditions, mo_fault, originals_of, translations_of, original_of, translation_of, count_of, first_encoding, later_encoding, fields_in_file}
 
-abbrev AreFaults : List Condition → Type 0
+abbrev AreFaults : List (Condition Error) → Type 0
 AreFaults = AllByRecursion (λ c. IsMoFault c.1)
 
-is_one : (cs : List Condition) (e : Error) → AreFaults cs → first_failure cs ≡ Some e → IsMoFault e
+is_one : (cs : List (Condition Error)) (e : Error) → AreFaults cs → first_failure cs ≡ Some e → IsMoFault e
 is_one [] e all h = absurd cc
 is_one (c ∷ cs) e all h = by_test c.0 (λ g. is_one cs e all.1 g) h where
   by_test : (t : Bool) → (first_failure cs ≡ Some e → IsMoFault e) → cond t (first_failure cs) (Some c.1) ≡ Some e → IsMoFault e
   by_test true rest g = rest g
   by_test false rest g = let same : c.1 ≡ e = cc in subst IsMoFault same all.0
 
-both : (xs ys : List Condition) → AreFaults xs → AreFaults ys → AreFaults (xs ++ ys)
+both : (xs ys : List (Condition Error)) → AreFaults xs → AreFaults ys → AreFaults (xs ++ ys)
 both [] ys a b = b
 both (x ∷ xs) ys a b = (a.0, both xs ys a.1 b)
 

@@ -2,18 +2,19 @@
 use Rattle.std.proofs.Common.{◌≡◌, ℕ, suc, ◌-◌, List, [], ◌∷◌, ◌++◌, Some, None, refl, sym, ap, ◌∙◌, arith, ◌⊎◌, inl, inr}
 use Rattle.std.specs.Option.{unwrap_or}
 use Rattle.std.specs.List.{AllByRecursion}
+use Rattle.writeable_core.specs.FirstFailure.{first_failure}
+use Rattle.writeable_core.specs.FirstFailureLaws.{failed_first, passed_first}
 use Rattle.gettext.specs.declared.error.Error.{Error}
 use Rattle.gettext.specs.declared.error.Error.TheVariants.{NoMemory}
 use Rattle.gettext.specs.declared.encoding.Encoding.{Encoding}
 use Rattle.gettext.specs.declared.settings.Settings.{Settings}
 use Rattle.gettext.specs.declared.table.Row.{Row}
 use Rattle.gettext.specs.Options.{Options}
-use Rattle.gettext.specs.Mo.{first_failure, first_encoding, later_encoding, fields_in_file, row_conditions, rows_conditions, metadata_conditions, all_rows_conditions}
+use Rattle.gettext.specs.Mo.{first_encoding, later_encoding, fields_in_file, row_conditions, rows_conditions, metadata_conditions, all_rows_conditions}
 use Rattle.gettext.specs.Reading.{row_of, rows_from, IsReadRow, IsRowIn, Pushed}
 use Rattle.gettext.specs.Decoding.{AreRowsIn}
 use Rattle.gettext.specs.Settings.{IsSettings}
 use Rattle.gettext.specs.Files.{found_fields, AreFileRows}
-use Rattle.gettext.proofs.Conditions.{failed_first, passed_first}
 
 pub no_rows : (b : List ℕ) (o : Options) (n : ℕ) (rows : List Row) (s : Settings) → n ≡ 0 → rows ≡ [] → IsSettings o [] s → AreFileRows b o n rows s × (first_failure (all_rows_conditions b o n) ≡ None)
 unfolding all_rows_conditions rows_from found_fields

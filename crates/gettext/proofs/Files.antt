@@ -3,7 +3,7 @@ use Rattle.std.proofs.Common.{◌≡◌, ℕ, zero, suc, ◌<◌, Bool, true, fa
 use Rattle.std.specs.Option.{option_map, unwrap_or}
 use Rattle.std.specs.List.{slice_get, AllByRecursion}
 use Rattle.std.specs.Prelude.{encode_utf8_all, ◌==◌}
-use Rattle.std.proofs.lemmas.Bool.{ne_eqb}
+use Rattle.std.proofs.lemmas.Bool.{and_parts, ne_eqb}
 use Rattle.std.proofs.lemmas.Slice.Eq.{bytes_eq-Decides}
 use Rattle.gettext.specs.declared.encoding.Encoding.{Encoding}
 use Rattle.gettext.specs.declared.encoding.Encoding.TheVariants.{Utf8, Latin1, Windows1252}
@@ -16,7 +16,7 @@ use Rattle.gettext.specs.Options.{Options}
 use Rattle.std.specs.Str.{chars}
 use Rattle.std.specs.Prelude.{Vec}
 use Rattle.std.specs.declared.alloc.Global.{Global}
-use Rattle.gettext.specs.Texts.{same_text}
+use Rattle.writeable_core.specs.Texts.{same_text}
 use Rattle.gettext.specs.Rule.{rule_shown}
 use Rattle.gettext.specs.Metadata.{Field, value_of}
 use Rattle.gettext.specs.Messages.{Message, Messages, Rule, Default, Expr, Function, StandsFor, lookup, has_id, header_of, plurals_among, plurals_of, plurals_named, bound_by}
@@ -172,17 +172,13 @@ utf_8_is Utf8 h = refl
 utf_8_is Latin1 h = absurd cc
 utf_8_is Windows1252 h = absurd cc
 
-both_true : (a b : Bool) → (a && b) ≡ true → (a ≡ true) × (b ≡ true)
-both_true true b e = (refl, e)
-both_true false b e = absurd cc
-
 in_place : (b : List ℕ) (first later : Encoding) (rows : List Row) → AreRowsIn b first later rows → is_in_utf8 (length rows) first later ≡ true → AreInPlace b first later rows
 in_place b first later [] h u = record { fit = tt; say = refl }
 in_place b first later (r ∷ []) h u =
     let this = row_in_place b first r (utf_8_is first u) h.0 in
     record { fit = (this.0, tt); say = rw this.1 refl }
 in_place b first later (r ∷ q ∷ rows) h u =
-    let both = both_true (is_utf_8 first) (is_utf_8 later) u in
+    let both = and_parts (is_utf_8 first) (is_utf_8 later) u in
     let this = row_in_place b first r (utf_8_is first both.0) h.0 in
     let rest = others_in_place b later (q ∷ rows) (utf_8_is later both.1) h.1 in
     record { fit = (this.0, rest.fit); say = rw (this.1, rest.say) refl }

@@ -5,6 +5,7 @@ use Rattle.std.specs.List.Sorted.{IsStrictlySortedBy}
 use Rattle.std.specs.Ordering.{nat_cmp, ordering_then, ordering_reverse, is_eq}
 use Rattle.std.specs.declared.cmp.Ordering.{Ordering}
 use Rattle.std.specs.declared.cmp.Ordering.TheVariants.{Less, Equal, Greater}
+use Rattle.std.specs.Cmp.{Equal-is}
 use Rattle.std.specs.Cmp.Lexicographic.{slice_cmp}
 use Rattle.std.proofs.lemmas.Bool.{false_from_ne_true, cases_lt}
 use Rattle.std.proofs.lemmas.Cmp.{nat_list_cmp_total, tied_back}
@@ -13,44 +14,30 @@ use Rattle.std.proofs.lemmas.Map.Text.{is_eq-slice_cmp}
 use Rattle.std.proofs.lemmas.List.{get_or-map, length-map, get_or_default, take_min, drop_min}
 use Rattle.std.proofs.lemmas.Option.{slice_get-get_or}
 use Rattle.gettext.specs.declared.table.Row.{Row}
-use Rattle.gettext.specs.Texts.{same_text}
+use Rattle.writeable_core.specs.OrderingLaws.{then-assoc}
+use Rattle.writeable_core.specs.Texts.{same_text}
 use Rattle.gettext.specs.Table.{key_bytes, row_for, IsTable}
 
 -- ---- a key behind a context
-
-then_assoc : (a b c : Ordering) → ordering_then (ordering_then a b) c ≡ ordering_then a (ordering_then b c)
-then_assoc Less b c = refl
-then_assoc Equal b c = refl
-then_assoc Greater b c = refl
 
 pub slice_cmp-append : (key front rest : List ℕ) → slice_cmp nat_cmp key (front ++ rest) ≡ ordering_then (slice_cmp nat_cmp (take (length front) key) front) (slice_cmp nat_cmp (drop (length front) key) rest)
 slice_cmp-append key [] rest = refl
 slice_cmp-append [] (x ∷ front) rest = refl
 slice_cmp-append (k ∷ key) (x ∷ front) rest =
-    ap (ordering_then (nat_cmp k x)) (slice_cmp-append key front rest) ∙ sym (then_assoc (nat_cmp k x) (slice_cmp nat_cmp (take (length front) key) front) (slice_cmp nat_cmp (drop (length front) key) rest))
+    ap (ordering_then (nat_cmp k x)) (slice_cmp-append key front rest) ∙ sym (then-assoc (nat_cmp k x) (slice_cmp nat_cmp (take (length front) key) front) (slice_cmp nat_cmp (drop (length front) key) rest))
 
 pub behind_context : (key context id : List ℕ) (front rest : List ℕ) → front ≡ take (min (length context) (length key)) key → rest ≡ drop (min (length context) (length key)) key
     → slice_cmp nat_cmp key (context ++ 4 ∷ id) ≡ ordering_then (slice_cmp nat_cmp front context) (slice_cmp nat_cmp rest (4 ∷ id))
 behind_context key context id front rest f r =
     rw (f, r, take_min (length context) key, drop_min (length context) key) (slice_cmp-append key context (4 ∷ id))
 
-pub then_other : (o p : Ordering) → (o ≡ Equal → ⊥) → o ≡ ordering_then o p
-then_other Less p h = refl
-then_other Equal p h = absurd (h refl)
-then_other Greater p h = refl
-
 -- ---- the row that a key finds
-
-Equal-from_is_eq : (o : Ordering) → is_eq o ≡ true → o ≡ Equal
-Equal-from_is_eq Less e = absurd cc
-Equal-from_is_eq Equal e = refl
-Equal-from_is_eq Greater e = absurd cc
 
 pub same_text-from_cmp : (xs ys : List ℕ) → slice_cmp nat_cmp xs ys ≡ Equal → same_text xs ys ≡ true
 same_text-from_cmp xs ys e = sym (is_eq-slice_cmp xs ys) ∙ ap is_eq e
 
 pub differs-from_cmp : (xs ys : List ℕ) → (slice_cmp nat_cmp xs ys ≡ Equal → ⊥) → same_text xs ys ≡ false
-differs-from_cmp xs ys ne = false_from_ne_true (same_text xs ys) (λ e. ne (Equal-from_is_eq (slice_cmp nat_cmp xs ys) (is_eq-slice_cmp xs ys ∙ e)))
+differs-from_cmp xs ys ne = false_from_ne_true (same_text xs ys) (λ e. ne ((Equal-is (slice_cmp nat_cmp xs ys)).0 (is_eq-slice_cmp xs ys ∙ e)))
 
 pub row_for-absent : (b : List ℕ) (rows : List Row) (q : List ℕ) → AllByRecursion (λ r. slice_cmp nat_cmp (key_bytes b r) q ≡ Equal → ⊥) rows → row_for b rows q ≡ None
 row_for-absent b [] q none = refl

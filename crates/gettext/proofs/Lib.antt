@@ -1,3 +1,4 @@
+pub mod Lists
 pub mod Conditions
 pub mod Rows
 pub mod Keys

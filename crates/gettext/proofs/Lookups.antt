@@ -12,7 +12,7 @@ use Rattle.std.proofs.lemmas.Str.{encode_ascii, encodes-append, encodes-chars, e
 use Rattle.gettext.specs.declared.table.Row.{Row}
 use Rattle.gettext.specs.declared.rule.PluralRule.{PluralRule}
 use Rattle.gettext.specs.Optional.{◌>>=◌}
-use Rattle.gettext.specs.Texts.{same_text}
+use Rattle.writeable_core.specs.Texts.{same_text}
 use Rattle.gettext.specs.Messages.{Messages, StandsFor, key_of, lookup, numbered, count_of_forms}
 use Rattle.gettext.specs.Table.{bytes_at, key_bytes, form_bytes, message_at, row_for, IsRowOf, held, messages_of, IsRangeOf, IsPieceSpan}
 

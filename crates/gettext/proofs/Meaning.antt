@@ -4,19 +4,20 @@ use Rattle.std.specs.Option.{unwrap_or}
 use Rattle.std.specs.List.{list_all}
 use Rattle.std.specs.Prelude.{nat_le, is_some, ◌==◌}
 use Rattle.std.specs.Str.{chars}
-use Rattle.std.proofs.lemmas.Bool.{leb-true, le-leb}
+use Rattle.std.proofs.lemmas.Bool.{and_parts, leb-true, le-leb}
 use Rattle.std.proofs.lemmas.Slice.Eq.{bytes_eq-Decides}
+use Rattle.writeable_core.specs.FirstFailure.{Condition, first_failure}
+use Rattle.writeable_core.specs.FirstFailureLaws.{failed_first, passed_first, head_passes, parts_pass}
 use Rattle.gettext.specs.declared.error.Error.{Error}
 use Rattle.gettext.specs.declared.error.Error.TheVariants.{BadMagic, Eof, MalformedMetadata, NoMemory, PluralParsing, UnknownEncoding}
 use Rattle.gettext.specs.declared.encoding.Encoding.{Encoding}
 use Rattle.gettext.specs.Options.{Options}
-use Rattle.gettext.specs.Texts.{same_text}
+use Rattle.writeable_core.specs.Texts.{same_text}
 use Rattle.gettext.specs.Encoding.{is_valid, text_in}
 use Rattle.gettext.specs.Metadata.{Field, value_of}
 use Rattle.gettext.specs.Messages.{Message, Messages, Rule, Default, Expr, has_id}
-use Rattle.gettext.specs.Mo.{Condition, first_failure, AreTexts, IsRow, AreRows, entries, head_of, pieces_of, original_of, translation_of, count_of, originals_of, translations_of, little_endian, big_endian, header_conditions, row_conditions, rows_conditions, metadata_conditions, all_rows_conditions, mo_fault, row_message, fields_in_file, header_fields, plural_of, IsRuleBy, rule_by, rule_of, named_encoding, first_encoding, later_encoding}
+use Rattle.gettext.specs.Mo.{AreTexts, IsRow, AreRows, entries, head_of, pieces_of, original_of, translation_of, count_of, originals_of, translations_of, little_endian, big_endian, header_conditions, row_conditions, rows_conditions, metadata_conditions, all_rows_conditions, mo_fault, row_message, fields_in_file, header_fields, plural_of, IsRuleBy, rule_by, rule_of, named_encoding, first_encoding, later_encoding}
 use Rattle.gettext.specs.Files.{found_fields}
-use Rattle.gettext.proofs.Conditions.{failed_first, passed_first, head_passes, parts_pass}
 use Rattle.gettext.proofs.Encodings.{IsText-is, IsText-text_in}
 use Rattle.gettext.proofs.ExpressionOf.{expression_found, expression_is, some_mapped}
 use Rattle.gettext.proofs.Ids.{has_id-text_in}
@@ -25,14 +26,10 @@ use Rattle.gettext.proofs.Rows.{RowHolds, row_holds, row_passes}
 
 -- ---- texts
 
-both_true : (a b : Bool) → (a && b) ≡ true → (a ≡ true) × (b ≡ true)
-both_true true b e = (refl, e)
-both_true false b e = absurd cc
-
 AreTexts-texts : (e : Encoding) (pieces : List (List ℕ)) → list_all (is_valid e) pieces ≡ true → AreTexts e pieces (map (text_in e) pieces)
 AreTexts-texts e [] all = tt
 AreTexts-texts e (p ∷ pieces) all =
-    let both = both_true (is_valid e p) (list_all (is_valid e) pieces) all in
+    let both = and_parts (is_valid e p) (list_all (is_valid e) pieces) all in
     (IsText-text_in e p both.0, AreTexts-texts e pieces both.1)
 
 AreTexts-are : (e : Encoding) (pieces texts : List (List ℕ)) → AreTexts e pieces texts → (list_all (is_valid e) pieces ≡ true) × (texts ≡ map (text_in e) pieces)
@@ -123,8 +120,8 @@ settled : (o : Options) (found : Option (List Field)) → first_failure (metadat
 unfolding metadata_conditions
 settled o None h = absurd cc
 settled o (Some fields) h =
-    let encoding : Condition = (is_some (named_encoding o fields), UnknownEncoding) in
-    let rule : Condition = (is_some (rule_of o fields), PluralParsing) in
+    let encoding : Condition Error = (is_some (named_encoding o fields), UnknownEncoding) in
+    let rule : Condition Error = (is_some (rule_of o fields), PluralParsing) in
     let first = head_passes (true, MalformedMetadata) (encoding ∷ rule ∷ []) h in
     let second = head_passes encoding (rule ∷ []) first.1 in
     let third = head_passes rule [] second.1 in
@@ -169,10 +166,10 @@ header_passes b h = rw (le-leb 28 (length b) h.header, magic_test (take 4 b) h.m
 pub header_holds : (b : List ℕ) → first_failure (header_conditions b) ≡ None → HeaderHolds b
 unfolding header_conditions
 header_holds b h =
-    let long : Condition = (nat_le 28 (length b), Eof) in
-    let magic : Condition = (same_text (take 4 b) little_endian || same_text (take 4 b) big_endian, BadMagic) in
-    let originals : Condition = (nat_le (originals_of b) (length b), Eof) in
-    let translations : Condition = (nat_le (translations_of b) (length b), Eof) in
+    let long : Condition Error = (nat_le 28 (length b), Eof) in
+    let magic : Condition Error = (same_text (take 4 b) little_endian || same_text (take 4 b) big_endian, BadMagic) in
+    let originals : Condition Error = (nat_le (originals_of b) (length b), Eof) in
+    let translations : Condition Error = (nat_le (translations_of b) (length b), Eof) in
     let first = head_passes long (magic ∷ originals ∷ translations ∷ []) h in
     let second = head_passes magic (originals ∷ translations ∷ []) first.1 in
     let third = head_passes originals (translations ∷ []) second.1 in

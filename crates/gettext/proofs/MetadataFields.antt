@@ -12,7 +12,8 @@ use Rattle.std.proofs.lemmas.Bool.Decides.{same_from_decides}
 use Rattle.std.proofs.lemmas.Option.{same_Some}
 use Rattle.std.proofs.lemmas.Slice.Eq.{bytes_eq-Decides}
 use Rattle.std.proofs.lemmas.Map.Text.{btree_map_updates_str}
-use Rattle.gettext.specs.Metadata.{Field, same_text, names_count, is_line_feed, is_colon, is_equals_sign, field_of, fields_in, fields_of, last_value, value_of, field_before, fields_among, gives, field_map}
+use Rattle.writeable_core.specs.Texts.{same_text}
+use Rattle.gettext.specs.Metadata.{Field, names_count, is_line_feed, is_colon, is_equals_sign, field_of, fields_in, fields_of, last_value, value_of, field_before, fields_among, gives, field_map}
 
 same_text-sym : (xs ys : List ℕ) → same_text xs ys ≡ same_text ys xs
 same_text-sym xs ys = same_from_decides (same_text xs ys) (same_text ys xs) (bytes_eq-Decides xs ys) (λ e. sym ((bytes_eq-Decides ys xs).0 e), λ e. (bytes_eq-Decides ys xs).1 (sym e))

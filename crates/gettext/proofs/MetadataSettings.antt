@@ -1,6 +1,7 @@
 -- What the metadata of a file settle.
 use Rattle.std.proofs.Common.{◌≡◌, Bool, true, false, cond, List, [], Option, Some, None, refl, sym, ◌∙◌}
 use Rattle.std.specs.Option.{unwrap_or}
+use Rattle.writeable_core.specs.FirstFailure.{first_failure}
 use Rattle.gettext.specs.declared.error.Error.TheVariants.{MalformedMetadata, PluralParsing, UnknownEncoding}
 use Rattle.gettext.specs.declared.encoding.Encoding.{Encoding}
 use Rattle.gettext.specs.declared.encoding.Encoding.TheVariants.{Utf8}
@@ -9,7 +10,7 @@ use Rattle.gettext.specs.Options.{Options}
 use Rattle.gettext.specs.Rule.{rule_shown}
 use Rattle.gettext.specs.Metadata.{Field, value_of}
 use Rattle.gettext.specs.Messages.{Rule, Default, Function}
-use Rattle.gettext.specs.Mo.{first_failure, first_encoding, encoding_by, named_encoding, rule_by, rule_of, metadata_conditions}
+use Rattle.gettext.specs.Mo.{first_encoding, encoding_by, named_encoding, rule_by, rule_of, metadata_conditions}
 use Rattle.gettext.specs.Settings.{IsSettings, plurals_by}
 
 -- ---- without metadata

@@ -2,21 +2,19 @@
 use Rattle.std.proofs.Common.{◌≡◌, ℕ, zero, suc, ◌+◌, ◌-◌, ◌≤◌, ◌<◌, List, [], ◌∷◌, ◌++◌, Some, None, refl, ap, ◌∙◌, arith, append_assoc}
 use Rattle.std.specs.List.{AllByRecursion}
 use Rattle.std.proofs.lemmas.List.{append-nil}
+use Rattle.writeable_core.specs.FirstFailure.{first_failure}
+use Rattle.writeable_core.specs.FirstFailureLaws.{failed_first, passed_first}
 use Rattle.gettext.specs.declared.error.Error.{Error}
 use Rattle.gettext.specs.declared.encoding.Encoding.{Encoding}
 use Rattle.gettext.specs.declared.table.Row.{Row}
-use Rattle.gettext.specs.Mo.{first_failure, row_conditions, rows_conditions}
+use Rattle.gettext.specs.Mo.{row_conditions, rows_conditions}
+use Rattle.gettext.proofs.Lists.{AllByRecursion-push}
 use Rattle.gettext.specs.Reading.{row_of, rows_from, IsReadRow, IsRowIn, Pushed}
-use Rattle.gettext.proofs.Conditions.{failed_first, passed_first}
 
 rows_from-push : (b : List ℕ) (i n : ℕ) → rows_from b i (suc n) ≡ rows_from b i n ++ row_of b (i + n) ∷ []
 unfolding rows_from
 rows_from-push b i zero = let k : i + 0 ≡ i = omega arith in rw k refl
 rows_from-push b i (suc n) = let k : i + suc n ≡ suc i + n = omega arith in rw k (ap (λ (rs : List Row). row_of b i ∷ rs) (rows_from-push b (suc i) n))
-
-all-push : {X : Type 0} (P : X → Type 0) (xs : List X) (x : X) → AllByRecursion P xs → P x → AllByRecursion P (xs ++ x ∷ [])
-all-push P [] x all p = (p, tt)
-all-push P (y ∷ ys) x all p = (all.0, all-push P ys x all.1 p)
 
 -- the rows before index are pushed, and the conditions from first on go as those from index on
 pub record IsPushing (old now : List Row) (b : List ℕ) (e : Encoding) (first count index : ℕ) : Type 0 where
@@ -52,7 +50,7 @@ module _ (old now : List Row) (b : List ℕ) (e : Encoding) (first count index :
           inside = omega (arith, lt);
           pushed = record {
             rows = rw last (ap (λ (rs : List Row). rs ++ r ∷ []) h.pushed.rows ∙ append_assoc old (rows_from b first (index - first)) (r ∷ []));
-            fit = rw last (all-push (IsRowIn b e) (rows_from b first (index - first)) r h.pushed.fit read.fits);
+            fit = rw last (AllByRecursion-push (IsRowIn b e) (rows_from b first (index - first)) r h.pushed.fit read.fits);
           };
           conditions = h.conditions ∙ rw (left, j) (passed_first (row_conditions b e index) (rows_conditions b e (suc index) (count - suc index)) passed);
         }

@@ -5,15 +5,17 @@ use Rattle.std.specs.Prelude.{nat_le, ◌==◌}
 use Rattle.std.proofs.lemmas.Bool.{leb-true, le-leb}
 use Rattle.std.proofs.lemmas.List.{length-take, take-take}
 use Rattle.std.proofs.lemmas.List.Folds.{length-prefix_len}
+use Rattle.writeable_core.specs.FirstFailure.{Condition, first_failure}
+use Rattle.writeable_core.specs.FirstFailureLaws.{passed_first, head_passes, parts_pass}
+use Rattle.gettext.specs.declared.error.Error.{Error}
 use Rattle.gettext.specs.declared.error.Error.TheVariants.{DecodingError, Eof, MisplacedMetadata}
 use Rattle.gettext.specs.declared.encoding.Encoding.{Encoding}
 use Rattle.gettext.specs.Encoding.{is_valid}
 use Rattle.gettext.specs.Messages.{has_id}
 use Rattle.gettext.specs.declared.table.Span.{Span}
-use Rattle.gettext.specs.Mo.{Condition, LiesInside, first_failure, row_place, is_nul, head_of, head_conditions, pieces_of, originals_of, translations_of, original_of, translation_of, text_offset, text_length, text_conditions, forms_conditions, original_conditions, translation_conditions, row_conditions}
+use Rattle.gettext.specs.Mo.{LiesInside, row_place, is_nul, head_of, head_conditions, pieces_of, originals_of, translations_of, original_of, translation_of, text_offset, text_length, text_conditions, forms_conditions, original_conditions, translation_conditions, row_conditions}
 use Rattle.gettext.specs.Table.{key_bytes, form_bytes}
 use Rattle.gettext.specs.Reading.{text_span, head_span, row_of, IsTextSpan, IsRowIn, IsReadRow}
-use Rattle.gettext.proofs.Conditions.{passed_first, head_passes, parts_pass}
 
 -- ---- the bytes that the ranges of a row hold
 
@@ -48,7 +50,7 @@ pub record RowHolds (b : List ℕ) (e : Encoding) (i : ℕ) : Type 0 where
 text_holds : (b : List ℕ) (table i : ℕ) → first_failure (text_conditions b table i) ≡ None → LiesInside b table i
 unfolding text_conditions
 text_holds b table i h =
-    let text : Condition = (nat_le (text_offset b table i + text_length b table i + 1) (length b), Eof) in
+    let text : Condition Error = (nat_le (text_offset b table i + text_length b table i + 1) (length b), Eof) in
     let first = head_passes (nat_le (row_place table i + 8) (length b), Eof) (text ∷ []) h in
     let second = head_passes text [] first.1 in
     record { row = leb-true _ _ first.0; text = leb-true _ _ second.0 }
@@ -60,10 +62,10 @@ text_passes b table i h = rw (le-leb _ _ h.row, le-leb _ _ h.text) refl
 pub row_holds : (b : List ℕ) (e : Encoding) (i : ℕ) → first_failure (row_conditions b e i) ≡ None → RowHolds b e i
 unfolding row_conditions original_conditions translation_conditions head_conditions forms_conditions
 row_holds b e i h =
-    let text : Condition = (is_valid e (head_of (original_of b i)), DecodingError) in
-    let id : Condition = ((i == 0) || has_id (head_of (original_of b i)), MisplacedMetadata) in
-    let ended : Condition = (list_any is_nul (original_of b i), Eof) in
-    let forms : Condition = (list_all (is_valid e) (pieces_of (translation_of b i)), DecodingError) in
+    let text : Condition Error = (is_valid e (head_of (original_of b i)), DecodingError) in
+    let id : Condition Error = ((i == 0) || has_id (head_of (original_of b i)), MisplacedMetadata) in
+    let ended : Condition Error = (list_any is_nul (original_of b i), Eof) in
+    let forms : Condition Error = (list_all (is_valid e) (pieces_of (translation_of b i)), DecodingError) in
     let both = parts_pass (original_conditions b e i) (translation_conditions b e i) h in
     let original = parts_pass (text_conditions b (originals_of b) i) (ended ∷ text ∷ id ∷ []) both.0 in
     let translation = parts_pass (text_conditions b (translations_of b) i) (forms ∷ []) both.1 in

@@ -1,5 +1,4 @@
 pub mod Optional
-pub mod Texts
 pub mod Encoding
 pub mod Options
 pub mod Metadata

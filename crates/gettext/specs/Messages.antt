@@ -3,7 +3,7 @@ use Rattle.std.specs.Prelude.{◌≡◌, ℕ, Bool, true, false, not, ◌&&◌, 
 use Rattle.std.specs.Option.{option_or, option_map, option_and_then}
 use Rattle.std.specs.List.{slice_get}
 use Rattle.gettext.specs.Optional.{◌>>=◌}
-use Rattle.gettext.specs.Texts.{same_text}
+use Rattle.writeable_core.specs.Texts.{same_text}
 use Rattle.gettext.specs.Expression.{Expression, value}
 use Rattle.gettext.specs.Metadata.{Field, fields_of, value_of, count_in}
 

@@ -7,7 +7,7 @@ use Rattle.std.specs.Char.{is_ascii_digit}
 use Rattle.std.specs.Str.{trim}
 use Rattle.std.specs.Str.Parse.{digits_value, without_leading_plus}
 use Rattle.std.specs.Cmp.Lexicographic.{slice_cmp}
-pub use Rattle.gettext.specs.Texts.{same_text}
+use Rattle.writeable_core.specs.Texts.{same_text}
 use Rattle.std.specs.Ordering.{nat_cmp}
 use Rattle.std.specs.Borrow.{Bor}
 use Rattle.std.specs.BTreeMap.{BTreeMap}

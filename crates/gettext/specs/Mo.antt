@@ -5,11 +5,12 @@ use Rattle.std.specs.Int.{w32, from_le_bytes, from_be_bytes}
 use Rattle.std.specs.List.{before_first, slice_get, slice_split, list_any, list_all}
 use Rattle.std.specs.Option.{option_map, option_and_then, unwrap_or}
 use Rattle.std.specs.Str.{chars}
+use Rattle.writeable_core.specs.FirstFailure.{Condition, first_failure}
 use Rattle.gettext.specs.declared.error.Error.{Error}
 use Rattle.gettext.specs.declared.error.Error.TheVariants.{BadMagic, DecodingError, Eof, MalformedMetadata, MisplacedMetadata, PluralParsing, UnknownEncoding}
 use Rattle.gettext.specs.declared.encoding.Encoding.{Encoding}
 use Rattle.gettext.specs.declared.encoding.Encoding.TheVariants.{Utf8}
-use Rattle.gettext.specs.Texts.{same_text}
+use Rattle.writeable_core.specs.Texts.{same_text}
 use Rattle.gettext.specs.Options.{Options}
 use Rattle.gettext.specs.Encoding.{IsText, is_valid, text_in, encoding_of}
 use Rattle.gettext.specs.Metadata.{Field, fields_of, value_of, charset_in, plural_in}
@@ -176,16 +177,7 @@ IsMoFault PluralParsing = Unit {0}
 IsMoFault UnknownEncoding = Unit {0}
 IsMoFault e = ⊥
 
--- A condition, and the fault that it is where it fails.
-abbrev pub Condition : Type 0
-Condition = Bool × Error
-
--- the fault of the first condition that fails
-abbrev pub first_failure : List Condition → Option Error
-first_failure [] = None
-first_failure (c ∷ cs) = if c.0 then first_failure cs else Some c.1
-
-unfoldable pub header_conditions : List ℕ → List Condition
+unfoldable pub header_conditions : List ℕ → List (Condition Error)
 header_conditions b =
     (nat_le 28 (length b), Eof)
     ∷ (same_text (take 4 b) little_endian || same_text (take 4 b) big_endian, BadMagic)
@@ -193,33 +185,33 @@ header_conditions b =
     ∷ (nat_le (translations_of b) (length b), Eof)
     ∷ []
 
-unfoldable pub text_conditions : List ℕ → ℕ → ℕ → List Condition
+unfoldable pub text_conditions : List ℕ → ℕ → ℕ → List (Condition Error)
 text_conditions b table i =
     (nat_le (row_place table i + 8) (length b), Eof)
     ∷ (nat_le (text_offset b table i + text_length b table i + 1) (length b), Eof)
     ∷ []
 
-unfoldable pub head_conditions : Encoding → ℕ → List ℕ → List Condition
+unfoldable pub head_conditions : Encoding → ℕ → List ℕ → List (Condition Error)
 head_conditions e i original =
     (list_any is_nul original, Eof)
     ∷ (is_valid e (head_of original), DecodingError)
     ∷ ((i == 0) || has_id (head_of original), MisplacedMetadata)
     ∷ []
 
-unfoldable pub forms_conditions : Encoding → List ℕ → List Condition
+unfoldable pub forms_conditions : Encoding → List ℕ → List (Condition Error)
 forms_conditions e translation = (list_all (is_valid e) (pieces_of translation), DecodingError) ∷ []
 
-unfoldable pub original_conditions : List ℕ → Encoding → ℕ → List Condition
+unfoldable pub original_conditions : List ℕ → Encoding → ℕ → List (Condition Error)
 original_conditions b e i = text_conditions b (originals_of b) i ++ head_conditions e i (original_of b i)
 
-unfoldable pub translation_conditions : List ℕ → Encoding → ℕ → List Condition
+unfoldable pub translation_conditions : List ℕ → Encoding → ℕ → List (Condition Error)
 translation_conditions b e i = text_conditions b (translations_of b) i ++ forms_conditions e (translation_of b i)
 
-unfoldable pub row_conditions : List ℕ → Encoding → ℕ → List Condition
+unfoldable pub row_conditions : List ℕ → Encoding → ℕ → List (Condition Error)
 row_conditions b e i = original_conditions b e i ++ translation_conditions b e i
 
 -- of n rows from row i on
-unfoldable pub rows_conditions : List ℕ → Encoding → ℕ → ℕ → List Condition
+unfoldable pub rows_conditions : List ℕ → Encoding → ℕ → ℕ → List (Condition Error)
 rows_conditions b e i zero = []
 rows_conditions b e i (suc n) = row_conditions b e i ++ rows_conditions b e (suc i) n
 
@@ -240,7 +232,7 @@ abbrev pub rule_of : Options → List Field → Option Rule
 rule_of o fields = rule_by o.forced (plural_of fields)
 
 -- of the metadata
-unfoldable pub metadata_conditions : Options → Option (List Field) → List Condition
+unfoldable pub metadata_conditions : Options → Option (List Field) → List (Condition Error)
 metadata_conditions o fields =
     (is_some fields, MalformedMetadata)
     ∷ (is_some (named_encoding o (unwrap_or fields [])), UnknownEncoding)
@@ -252,7 +244,7 @@ unfoldable pub later_encoding : List ℕ → Options → Encoding
 later_encoding b o = unwrap_or (named_encoding o (unwrap_or (fields_in_file b o) [])) Utf8
 
 -- of n rows
-unfoldable pub all_rows_conditions : List ℕ → Options → ℕ → List Condition
+unfoldable pub all_rows_conditions : List ℕ → Options → ℕ → List (Condition Error)
 all_rows_conditions b o zero = []
 all_rows_conditions b o (suc n) =
     row_conditions b (first_encoding o) 0 ++ (metadata_conditions o (fields_in_file b o) ++ rows_conditions b (later_encoding b o) 1 n)

@@ -8,7 +8,7 @@ use Rattle.std.specs.Cmp.Lexicographic.{slice_cmp}
 use Rattle.std.specs.Str.{is_utf8, chars}
 use Rattle.gettext.specs.declared.table.Span.{Span}
 use Rattle.gettext.specs.declared.table.Row.{Row}
-use Rattle.gettext.specs.Texts.{same_text}
+use Rattle.writeable_core.specs.Texts.{same_text}
 use Rattle.gettext.specs.Messages.{Message, Messages, lookup, bound, has_id}
 use Rattle.gettext.specs.declared.rule.PluralRule.{PluralRule}
 use Rattle.gettext.specs.Rule.{rule_shown}

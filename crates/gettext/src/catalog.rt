@@ -1,11 +1,12 @@
 //! Catalogs of messages, and the look-up of a message's form.
 
-ghost use Rattle.std.specs.Prelude.{◌≡◌, ℕ, ◌==◌, ◌⊎◌, ◌↔◌, ◌≤◌, List, [], length, true, Option, Some, None, Result, IfOk, IfErr, IfSome, MatchResult, IsErrAnd, if◌then◌else◌};
+ghost use Rattle.std.specs.Prelude.{◌≡◌, ℕ, ◌==◌, ◌⊎◌, ◌↔◌, ◌≤◌, List, [], length, true, Option, Some, None, Result, IfOk, IfErr, IfSome, MatchResult, IsErrAnd, IsErrOf, if◌then◌else◌};
 ghost use Rattle.std.specs.Option.{option_map};
 ghost use Rattle.std.specs.Str.{chars};
+ghost use Rattle.reading.specs.Reading.{IsReadToEnd};
 ghost use Rattle.gettext.specs.declared.error.Error.{Error};
-ghost use Rattle.gettext.specs.declared.error.Error.TheVariants.{Io, NoMemory};
-ghost use Rattle.writeable.specs.Sink.{Rose};
+ghost use Rattle.gettext.specs.declared.error.Error.TheVariants.{Io, NoMemory, TooLong};
+ghost use Rattle.writeable_core.specs.Sink.{Rose};
 ghost use Rattle.gettext.specs.Messages.{Messages, StandsFor, Default, key_of, numbered, numbered_within, form, count_of_forms, own_words, text_or};
 ghost use Rattle.gettext.specs.Mo.{IsInUtf8, IsMoFault, entries, mo_fault};
 ghost use Rattle.gettext.specs.Options.{Options, plain_options};
@@ -17,7 +18,7 @@ use crate::parse_options::ParseOptions;
 use crate::resolver::{FileRule, PluralFunction};
 use crate::table::Table;
 use std::alloc::Global;
-use writeable::Source;
+use writeable_core::Source;
 
 /// The messages of one language, as an MO file holds them.
 ///
@@ -67,8 +68,9 @@ impl Catalog {
         ensures io { IfErr result (λ e. e ≡ Io → Rose (S.faults source.old) (S.faults source.new)) }
         ensures later { S.faults source.old ≤ S.faults source.new }
 
-        // The source was read to its end.
-        ensures ended { MatchResult result (λ _. S.ended source.new ≡ true) (λ e. ComesAtEnd e → S.ended source.new ≡ true) }
+        // The source was read to its end, and no read failed.
+        ensures read_to_end { IfErr result ComesAtEnd → IsReadToEnd S.left S.ended S.faults source.old source.new }
+        ensures no_fault { IsErrOf result TooLong → S.faults source.new ≡ S.faults source.old }
     {
         ParseOptions::new().parse(alloc, source)
     }

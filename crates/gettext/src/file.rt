@@ -1,12 +1,14 @@
 //! Reading a whole MO file (GNU gettext manual, section 10.3).
 
-ghost use Rattle.std.specs.Prelude.{◌≡◌, ◌⊎◌, ◌≤◌, true, Some, None, length, IfOk, IfErr, IfSome, IsErrAnd, MatchResult};
+ghost use Rattle.std.specs.Prelude.{◌≡◌, ◌⊎◌, ◌≤◌, true, Some, None, length, IfOk, IfErr, IfSome, IsErrAnd, IsErrOf, MatchResult};
+ghost use Rattle.writeable_core.specs.FirstFailure.{first_failure};
+ghost use Rattle.reading.specs.Reading.{IsReadToEnd};
 ghost use Rattle.gettext.specs.declared.error.Error.{Error};
-ghost use Rattle.gettext.specs.declared.error.Error.TheVariants.{Io, NoMemory};
-ghost use Rattle.writeable.specs.Sink.{Rose};
+ghost use Rattle.gettext.specs.declared.error.Error.TheVariants.{Io, NoMemory, TooLong};
+ghost use Rattle.writeable_core.specs.Sink.{Rose};
 ghost use Rattle.gettext.specs.Files.{AreFileRows, IsFile, buffer_of, is_in_utf8};
 ghost use Rattle.gettext.specs.Messages.{Messages, StandsFor};
-ghost use Rattle.gettext.specs.Mo.{IsInUtf8, entries, first_failure, all_rows_conditions, mo_fault};
+ghost use Rattle.gettext.specs.Mo.{IsInUtf8, entries, all_rows_conditions, mo_fault};
 ghost use Rattle.gettext.specs.Reading.{GivesInMemory, IsHeader};
 ghost use Rattle.gettext.specs.Sources.{ComesAtEnd, IsReadFault, most_bytes, source_fault};
 ghost use Rattle.gettext.specs.Table.{messages_of};
@@ -21,7 +23,7 @@ use crate::sorting::sorted;
 use crate::table::{Row, Table};
 use reading::read_all;
 use std::alloc::{AllocError, Global};
-use writeable::Source;
+use writeable_core::Source;
 
 /// The table of a file's messages. Of equal keys the last row counts.
 pub fn table_of_bytes(alloc: Global, bytes: &[u8], options: Options) -> Result<Table, Error>
@@ -50,7 +52,8 @@ pub fn table_of_source<S: Source>(
 ) -> Result<Table, Error>
     ensures sound { IfOk result (λ table. IfSome (S.left source.old) (λ bytes. (length bytes ≤ most_bytes)
         × (c : Messages) × entries bytes options c × StandsFor (messages_of table) c)) }
-    ensures ended { MatchResult result (λ _. S.ended source.new ≡ true) (λ e. ComesAtEnd e → S.ended source.new ≡ true) }
+    ensures read_to_end { IfErr result ComesAtEnd → IsReadToEnd S.left S.ended S.faults source.old source.new }
+    ensures no_fault { IsErrOf result TooLong → S.faults source.new ≡ S.faults source.old }
     ensures exact { IfSome (S.left source.old) (λ bytes. MatchResult result (λ _. source_fault bytes options ≡ None)
         (λ e. IsReadFault e ⊎ (source_fault bytes options ≡ Some e))) }
     ensures io { IfErr result (λ e. e ≡ Io → Rose (S.faults source.old) (S.faults source.new)) }

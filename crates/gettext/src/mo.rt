@@ -2,9 +2,10 @@
 
 ghost use Rattle.std.specs.Prelude.{◌≡◌, ◌==◌, ◌+◌, ◌-◌, ◌≤◌, ◌<◌, length, IfOk};
 ghost use Rattle.std.specs.List.{list_all, position_or_len};
+ghost use Rattle.writeable_core.specs.FirstFailure.{first_failure};
 ghost use Rattle.gettext.specs.Encoding.{is_valid};
 ghost use Rattle.gettext.specs.Messages.{has_id};
-ghost use Rattle.gettext.specs.Mo.{is_big_endian, number, first_failure, text_conditions, original_conditions, translation_conditions, row_conditions, rows_conditions, header_conditions, head_of, pieces_of, head_conditions, translations_of};
+ghost use Rattle.gettext.specs.Mo.{is_big_endian, number, text_conditions, original_conditions, translation_conditions, row_conditions, rows_conditions, header_conditions, head_of, pieces_of, head_conditions, translations_of};
 ghost use Rattle.gettext.specs.Reading.{Gives, GivesInMemory, IsHeader, IsTextSpan, head_span, IsReadRow, Pushed};
 
 use crate::encoding::Encoding;

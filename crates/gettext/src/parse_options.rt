@@ -1,9 +1,10 @@
 //! Reading a catalog, with what overrules the file.
 
-ghost use Rattle.std.specs.Prelude.{◌≡◌, ℕ, ◌<◌, ◌≤◌, ◌^◌, ◌⊎◌, length, true, false, Some, None, Option, IfOk, IfErr, IfSome, IsErrAnd, MatchResult};
+ghost use Rattle.std.specs.Prelude.{◌≡◌, ℕ, ◌<◌, ◌≤◌, ◌^◌, ◌⊎◌, length, true, false, Some, None, Option, IfOk, IfErr, IfSome, IsErrAnd, IsErrOf, MatchResult};
+ghost use Rattle.reading.specs.Reading.{IsReadToEnd};
 ghost use Rattle.gettext.specs.declared.error.Error.{Error};
-ghost use Rattle.gettext.specs.declared.error.Error.TheVariants.{Io, NoMemory};
-ghost use Rattle.writeable.specs.Sink.{Rose};
+ghost use Rattle.gettext.specs.declared.error.Error.TheVariants.{Io, NoMemory, TooLong};
+ghost use Rattle.writeable_core.specs.Sink.{Rose};
 ghost use Rattle.gettext.specs.Messages.{Messages, StandsFor};
 ghost use Rattle.gettext.specs.Mo.{IsInUtf8, entries, mo_fault};
 ghost use Rattle.gettext.specs.Options.{options_of};
@@ -17,7 +18,7 @@ use crate::file::{table_of_bytes, table_of_source};
 use crate::options::Options;
 use crate::resolver::{FileRule, PluralFunction};
 use std::alloc::Global;
-use writeable::Source;
+use writeable_core::Source;
 
 /// How a catalog is read: an encoding and a plural rule that count in place of the file's.
 ///
@@ -68,7 +69,8 @@ impl ParseOptions {
     pub fn parse<S: Source>(self, alloc: Global, source: &mut S) -> Result<Catalog, Error>
         ensures sound { IfOk result (λ catalog. IfSome (S.left source.old) (λ bytes. (length bytes ≤ most_bytes)
             × (c : Messages) × entries bytes (options_of self.encoding false) c × StandsFor (messages_of catalog.entries) c)) }
-        ensures ended { MatchResult result (λ _. S.ended source.new ≡ true) (λ e. ComesAtEnd e → S.ended source.new ≡ true) }
+        ensures read_to_end { IfErr result ComesAtEnd → IsReadToEnd S.left S.ended S.faults source.old source.new }
+        ensures no_fault { IsErrOf result TooLong → S.faults source.new ≡ S.faults source.old }
         ensures exact { IfSome (S.left source.old) (λ bytes. MatchResult result (λ _. source_fault bytes (options_of self.encoding false) ≡ None)
             (λ e. IsReadFault e ⊎ (source_fault bytes (options_of self.encoding false) ≡ Some e))) }
         ensures io { IfErr result (λ e. e ≡ Io → Rose (S.faults source.old) (S.faults source.new)) }
@@ -121,7 +123,8 @@ impl ParseOptions<PluralFunction> {
     ) -> Result<Catalog<PluralFunction>, Error>
         ensures sound { IfOk result (λ catalog. IfSome (S.left source.old) (λ bytes. (length bytes ≤ most_bytes)
             × (c : Messages) × entries bytes (options_of self.encoding true) c × StandsFor (messages_of catalog.entries) c)) }
-        ensures ended { MatchResult result (λ _. S.ended source.new ≡ true) (λ e. ComesAtEnd e → S.ended source.new ≡ true) }
+        ensures read_to_end { IfErr result ComesAtEnd → IsReadToEnd S.left S.ended S.faults source.old source.new }
+        ensures no_fault { IsErrOf result TooLong → S.faults source.new ≡ S.faults source.old }
         ensures exact { IfSome (S.left source.old) (λ bytes. MatchResult result (λ _. source_fault bytes (options_of self.encoding true) ≡ None)
             (λ e. IsReadFault e ⊎ (source_fault bytes (options_of self.encoding true) ≡ Some e))) }
         ensures io { IfErr result (λ e. e ≡ Io → Rose (S.faults source.old) (S.faults source.new)) }

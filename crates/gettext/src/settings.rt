@@ -2,9 +2,10 @@
 
 ghost use Rattle.std.specs.Prelude.{◌≡◌, false, [], codes};
 ghost use Rattle.std.specs.Option.{option_map, option_and_then, unwrap_or};
+ghost use Rattle.writeable_core.specs.FirstFailure.{first_failure};
 ghost use Rattle.gettext.specs.declared.error.Error.TheVariants.{PluralParsing, UnknownEncoding};
 ghost use Rattle.gettext.specs.Metadata.{fields_of, charset_in, gives};
-ghost use Rattle.gettext.specs.Mo.{first_encoding, encoding_by, fields_in_file, metadata_conditions, rule_by, first_failure};
+ghost use Rattle.gettext.specs.Mo.{first_encoding, encoding_by, fields_in_file, metadata_conditions, rule_by};
 ghost use Rattle.gettext.specs.Reading.{GivesInMemory, IsReadRow};
 ghost use Rattle.gettext.specs.Rule.{rule_shown};
 ghost use Rattle.gettext.specs.Settings.{IsSettings, Answers};

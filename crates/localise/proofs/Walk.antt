@@ -2,32 +2,16 @@
 use Rattle.std.proofs.Common.{◌≡◌, ℕ, List, [], ◌∷◌, map, Bool, true, false, refl, sym, ap, ◌∙◌, cond, Option, Some, None}
 use Rattle.std.specs.Option.{option_or}
 use Rattle.gettext.specs.Messages.{form, key_of}
-use Rattle.gettext.specs.Texts.{same_text}
+use Rattle.writeable_core.specs.Texts.{same_text}
 use Rattle.localise.specs.declared.bundle.BundleText.{BundleText}
 use Rattle.localise.specs.declared.request.Request.{Request}
 use Rattle.localise.specs.Bundles.{KeepsMeaning, Localises}
 use Rattle.localise.specs.Chosen.{unknown, walk_of, Translation, form_in, numbered_from, translation_at, first_of, chosen, localised_by}
 use Rattle.localise.specs.Meaning.{Meaning}
-use Rattle.gettext.specs.Options.{plain_options}
-use Rattle.gettext.proofs.Alike.{form_alike}
-
-along : Bool → List Meaning → Request → Option Translation
-along b bundles q = first_of (map (translation_at 0 bundles q) (cond b (unknown ∷ []) (q.tag ∷ unknown ∷ [])))
-
-none_along : (b : Bool) (q : Request) → first_of (map (translation_at 0 [] q) (cond b (unknown ∷ []) (q.tag ∷ unknown ∷ []))) ≡ None
-none_along true q = refl
-none_along false q = refl
-
--- no bundle translates where there is none
-pub chosen-nil : (q : Request) → None ≡ chosen [] q
-chosen-nil q = sym (none_along (same_text q.tag unknown) q)
 
 or_none : {A : Type 0} (o : Option A) → o ≡ option_or (option_or o None) None
 or_none None = refl
 or_none (Some x) = refl
-
-or_none_behind : {A : Type 0} (o : Option A) → o ≡ option_or (option_or o None) None
-or_none_behind o = or_none o
 
 -- the tag is the unknown locale
 pub chosen_at_unknown : (b : Meaning) (q : Request) → same_text q.tag unknown ≡ true
@@ -35,16 +19,6 @@ pub chosen_at_unknown : (b : Meaning) (q : Request) → same_text q.tag unknown 
 chosen_at_unknown b q is =
     or_none (numbered_from 0 (form_in b q unknown))
     ∙ ap (λ t. first_of (map (translation_at 0 (b ∷ []) q) (cond t (unknown ∷ []) (q.tag ∷ unknown ∷ [])))) (sym is)
-
-first_or : {A : Type 0} (o : Option A) (x : A) (rest : Option A) → o ≡ Some x → Some x ≡ option_or (option_or o None) rest
-first_or o x rest e = ap (λ p. option_or (option_or p None) rest) (sym e)
-
--- the tag's own locale translates
-pub chosen_at_tag : (b : Meaning) (q : Request) (f : ℕ × List ℕ) → same_text q.tag unknown ≡ false
-    → form_in b q q.tag ≡ Some f → numbered_from 0 (Some f) ≡ chosen (b ∷ []) q
-chosen_at_tag b q f isnt there =
-    first_or (numbered_from 0 (form_in b q q.tag)) _ _ (ap (numbered_from 0) there)
-    ∙ ap (λ t. first_of (map (translation_at 0 (b ∷ []) q) (cond t (unknown ∷ []) (q.tag ∷ unknown ∷ [])))) (sym isnt)
 
 second_or : {A : Type 0} (o p : Option A) → o ≡ None → p ≡ option_or (option_or o None) (option_or (option_or p None) None)
 second_or o p e = or_none p ∙ ap (λ r. option_or (option_or r None) (option_or (option_or p None) None)) (sym e)
@@ -62,7 +36,7 @@ form_in-kept : (text : BundleText) (kept : Meaning) (k : KeepsMeaning text kept)
     → form_in kept q locale ≡ form_in k.meaning q locale
 form_in-kept text kept k q locale =
     ap (λ l. cond (same_text l locale) (form kept.messages (key_of q.context q.singular) q.count) None) (k.locale ∙ sym k.means.locale)
-    ∙ ap (λ f. cond (same_text k.meaning.locale locale) f None) (form_alike text.mo plain_options k.meaning.messages kept.messages k.means.messages k.stands (key_of q.context q.singular) q.count)
+    ∙ ap (λ f. cond (same_text k.meaning.locale locale) f None) (k.alike (key_of q.context q.singular) q.count)
 
 chosen-along : (kept meaning : Meaning) (q : Request) → ((locale : List ℕ) → form_in kept q locale ≡ form_in meaning q locale)
     → (locales : List (List ℕ)) → first_of (map (translation_at 0 (kept ∷ []) q) locales) ≡ first_of (map (translation_at 0 (meaning ∷ []) q) locales)
@@ -78,6 +52,3 @@ localises_one text kept k = record {
   mean = (k.means, tt);
   alike = λ q. ap (localised_by q) (chosen-along kept k.meaning q (form_in-kept text kept k q) (walk_of q.tag));
 }
-
-pub localises_none : Localises [] []
-localises_none = record { bundles = []; mean = tt; alike = λ q. refl }

@@ -1,8 +1,8 @@
 -- Which text a request gets: the walk over locales, and the first that translates.
 use Rattle.std.specs.Prelude.{ℕ, suc, List, [], ◌∷◌, map, codes, Option, Some, None, ◌==◌, if◌then◌else◌}
 use Rattle.std.specs.Option.{option_or, option_map}
+use Rattle.writeable_core.specs.Texts.{same_text}
 use Rattle.gettext.specs.Messages.{form, key_of}
-use Rattle.gettext.specs.Texts.{same_text}
 use Rattle.localise.specs.Meaning.{Meaning}
 use Rattle.localise.specs.declared.request.Request.{Request}
 use Rattle.localise.specs.Localised.{Localised}
@@ -11,7 +11,7 @@ use Rattle.localise.specs.Localised.{Localised}
 abbrev pub unknown : List ℕ
 unknown = codes "und"
 
--- the locales of the walk, in order, each once (UTS 35, section 4.1, locale inheritance)
+-- the locales of the walk, in order, each once (UTS 35, locale inheritance)
 abbrev pub walk_of : List ℕ → List (List ℕ)
 walk_of tag = if same_text tag unknown then unknown ∷ [] else tag ∷ unknown ∷ []
 

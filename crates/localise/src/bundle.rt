@@ -2,17 +2,17 @@ ghost use Rattle.std.specs.Prelude.{◌≡◌, ◌≢◌, Some, None, IfOk, IfEr
 ghost use Rattle.std.specs.Option.{option_map};
 ghost use Rattle.std.specs.Str.{chars};
 ghost use Rattle.gettext.specs.Mo.{mo_fault};
-ghost use Rattle.gettext.specs.Texts.{same_text};
+ghost use Rattle.writeable_core.specs.Texts.{same_text};
 ghost use Rattle.gettext.specs.Options.{plain_options};
 ghost use Rattle.localise.specs.Bundles.{KeepsMeaning};
 ghost use Rattle.localise.specs.Chosen.{form_in};
 ghost use Rattle.localise.specs.Kept.{meaning_of};
 
 use crate::Request;
-use gettext::{Catalog, Error, Form};
+use gettext::{Catalog, Error, Form, one_meaning};
 use std::alloc::Global;
 use std::marker::Model;
-use writeable::OwnedText;
+use writeable_core::OwnedText;
 
 /// The bytes of an MO file. Contracts see them as a list.
 #[derive(Debug, Drop)]
@@ -73,6 +73,7 @@ impl Bundle {
         ensures err { IfErr result (λ e. e ≢ Error.NoMemory → mo_fault text.now.mo plain_options ≡ Some e) }
     {
         let catalog = Catalog::parse_bytes(alloc, text.mo.as_slice())?;
+        one_meaning();
         let locale = OwnedText::new(alloc, text.tag.as_str()).map_err(|_| Error::NoMemory)?;
         Ok(Bundle { locale, catalog })
     }

@@ -1,13 +1,15 @@
 ghost use Rattle.std.specs.Prelude.{◌≡◌, false, Some, None};
 ghost use Rattle.std.specs.Str.{chars};
 ghost use Rattle.localise.specs.Chosen.{own_words};
-ghost use Rattle.writeable.specs.Hint.{text_hint, byte_length, Hinted-exact};
-ghost use Rattle.writeable.specs.Marks.{plain, characters-plain, Nests-plain};
+ghost use Rattle.writeable_core.specs.Hint.{text_hint, byte_length};
+ghost use Rattle.writeable_core.specs.HintLaws.{Hinted-exact};
+ghost use Rattle.writeable_core.specs.Marks.{plain};
+ghost use Rattle.writeable_core.specs.MarksLaws.{characters-plain, Nests-plain};
 
 use crate::Request;
 use gettext::Form;
 use std::marker::Model;
-use writeable::{LengthHint, PartsWrite, Sink, SinkError, Writeable};
+use writeable_core::{LengthHint, PartsWrite, Sink, SinkError, Writeable};
 
 /// What was found for a request. It borrows its text from a catalog or from the request.
 #[derive(Drop)]

@@ -2,7 +2,7 @@ ghost use Rattle.std.specs.Prelude.{◌≡◌};
 ghost use Rattle.std.specs.Option.{option_map};
 ghost use Rattle.std.specs.Str.{chars};
 
-use writeable::{OwnedText, TextList};
+use writeable_core::{OwnedText, TextList};
 
 /// What is asked for: a message, in a language, for a count.
 #[derive(Debug, Drop)]

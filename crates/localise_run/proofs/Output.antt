@@ -1,8 +1,8 @@
 -- The lines of requests, as far as they are written.
-use Rattle.std.proofs.Common.{◌≡◌, ℕ, ◌+◌, ◌<◌, List, [], ◌∷◌, ◌++◌, length, take, drop, get_or, refl, sym, ap, ◌∙◌, subst, append_assoc, append-nil, Result, Ok, Err, OnErr, take-append-drop}
+use Rattle.std.proofs.Common.{◌≡◌, ℕ, ◌+◌, ◌<◌, List, [], ◌∷◌, ◌++◌, length, take, drop, get_or, refl, sym, ap, ◌∙◌, subst, append_assoc, append-nil, take-append-drop}
 use Rattle.std.proofs.lemmas.List.{take_more}
-use Rattle.writeable.specs.Sink.{TookPrefix}
-use Rattle.writeable.proofs.Taking.{front_of_longer, front_after}
+use Rattle.writeable_core.specs.Sink.{TookPrefix}
+use Rattle.writeable_core.specs.SinkLaws.{front_of_longer, front_after}
 use Rattle.localise.specs.declared.request.Request.{Request}
 use Rattle.localise.specs.Chosen.{localised}
 use Rattle.localise.specs.Meaning.{Meaning}
@@ -27,10 +27,6 @@ output-split bs qs i q h is =
     ap (λ l. l ++ output bs (drop (i + 1) qs)) (sym (output-take_more bs qs i q h is))
     ∙ sym (output-append bs (take (i + 1) qs) (drop (i + 1) qs))
     ∙ ap (output bs) (take-append-drop (i + 1) qs)
-
-pub on_err : {T E : Type 0} {P : Type 0} (r : Result T E) → P → OnErr r P
-on_err (Ok x) p = tt
-on_err (Err e) p = p
 
 -- the lines so far, and then a front of a line, are a front of all lines
 pub front_of_output : {O : Type 0} (took : O → List ℕ → O → Type 0) (a b c : O) (bs : List Meaning) (qs : List Request) (i : ℕ) (q : Request)

@@ -1,7 +1,7 @@
 -- What a run means: the one answer of a document, and the lines that are appended.
 use Rattle.std.specs.Prelude.{◌≡◌, ℕ, ◌≤◌, ◌⊎◌, List, [], ◌∷◌, ◌++◌, length, map, codes, Option, Some, None, IfSome, Bool, true, String, string_bytes, nat_le, if◌then◌else◌}
 use Rattle.std.specs.declared.alloc.Global.{Global}
-use Rattle.writeable.specs.Sink.{TookPrefix, Rose}
+use Rattle.writeable_core.specs.Sink.{TookPrefix, Rose}
 use Rattle.localise.specs.declared.bundle.BundleText.{BundleText}
 use Rattle.localise.specs.declared.request.Request.{Request}
 use Rattle.localise.specs.declared.error.RenderError.{RenderError}
@@ -83,14 +83,24 @@ abbrev pub IsFailure : Status → Type 0
 IsFailure ReadFault = Unit {0}
 IsFailure WriteFault = Unit {0}
 IsFailure NoMemory = Unit {0}
-IsFailure _ = ⊥
+IsFailure Done = ⊥
+IsFailure BadWords = ⊥
+IsFailure NotJson = ⊥
+IsFailure (Bundle i cause) = ⊥
+IsFailure TooLong = ⊥
+IsFailure NotBuilt = ⊥
 
 -- before any line is written
 abbrev pub IsRefusal : Status → Type 0
 IsRefusal Done = ⊥
 IsRefusal WriteFault = ⊥
 IsRefusal NoMemory = ⊥
-IsRefusal _ = Unit {0}
+IsRefusal BadWords = Unit {0}
+IsRefusal NotJson = Unit {0}
+IsRefusal (Bundle i cause) = Unit {0}
+IsRefusal ReadFault = Unit {0}
+IsRefusal TooLong = Unit {0}
+IsRefusal NotBuilt = Unit {0}
 
 -- once the source was read to its end
 abbrev pub ComesAtEnd : Status → Type 0
@@ -98,7 +108,11 @@ ComesAtEnd BadWords = ⊥
 ComesAtEnd ReadFault = ⊥
 ComesAtEnd TooLong = ⊥
 ComesAtEnd NoMemory = ⊥
-ComesAtEnd _ = Unit {0}
+ComesAtEnd Done = Unit {0}
+ComesAtEnd NotJson = Unit {0}
+ComesAtEnd (Bundle i cause) = Unit {0}
+ComesAtEnd WriteFault = Unit {0}
+ComesAtEnd NotBuilt = Unit {0}
 
 -- ---- how the steps of a run fail
 
@@ -130,14 +144,14 @@ FailsToRender took bytes before now old new NotBuilt = (new ≡ old) × (answer_
 FailsToRender took bytes before now old new (Bundle i cause) = (new ≡ old) × (answer_of bytes ≡ Bundle i cause)
 FailsToRender took bytes before now old new _ = ⊥
 
--- what holds under each answer once the words are a command
-abbrev pub Outcome : {O : Type 0} (left : Option (List ℕ)) (read_before read_now : ℕ) (ended : Bool) (took : O → List ℕ → O → Type 0) (written_before written_now : ℕ) (old new : O) → Status → Type 0
-Outcome left rb rn ended took wb wn old new Done = (ended ≡ true) × IfSome left (λ bytes. Renders bytes (λ lines. took old lines new))
-Outcome left rb rn ended took wb wn old new WriteFault = (ended ≡ true) × Rose wb wn × IfSome left (λ bytes. Renders bytes (λ lines. TookPrefix took old lines new))
-Outcome left rb rn ended took wb wn old new NoMemory = (new ≡ old) ⊎ IfSome left (λ bytes. Renders bytes (λ lines. TookPrefix took old lines new))
-Outcome left rb rn ended took wb wn old new ReadFault = Rose rb rn × (new ≡ old)
-Outcome left rb rn ended took wb wn old new TooLong = (new ≡ old) × IfSome left (λ bytes. answer_of bytes ≡ TooLong)
-Outcome left rb rn ended took wb wn old new NotJson = (ended ≡ true) × (new ≡ old) × IfSome left (λ bytes. answer_of bytes ≡ NotJson)
-Outcome left rb rn ended took wb wn old new NotBuilt = (ended ≡ true) × (new ≡ old) × IfSome left (λ bytes. answer_of bytes ≡ NotBuilt)
-Outcome left rb rn ended took wb wn old new (Bundle i cause) = (ended ≡ true) × (new ≡ old) × IfSome left (λ bytes. answer_of bytes ≡ Bundle i cause)
-Outcome left rb rn ended took wb wn old new BadWords = ⊥
+-- what holds under each answer once the words are a command, where AtEnd says that the source was read to its end
+abbrev pub Outcome : {O : Type 0} (left : Option (List ℕ)) (read_before read_now : ℕ) (AtEnd : Type 0) (took : O → List ℕ → O → Type 0) (written_before written_now : ℕ) (old new : O) → Status → Type 0
+Outcome left rb rn AtEnd took wb wn old new Done = AtEnd × IfSome left (λ bytes. Renders bytes (λ lines. took old lines new))
+Outcome left rb rn AtEnd took wb wn old new WriteFault = AtEnd × Rose wb wn × IfSome left (λ bytes. Renders bytes (λ lines. TookPrefix took old lines new))
+Outcome left rb rn AtEnd took wb wn old new NoMemory = (new ≡ old) ⊎ IfSome left (λ bytes. Renders bytes (λ lines. TookPrefix took old lines new))
+Outcome left rb rn AtEnd took wb wn old new ReadFault = Rose rb rn × (new ≡ old)
+Outcome left rb rn AtEnd took wb wn old new TooLong = (rn ≡ rb) × (new ≡ old) × IfSome left (λ bytes. answer_of bytes ≡ TooLong)
+Outcome left rb rn AtEnd took wb wn old new NotJson = AtEnd × (new ≡ old) × IfSome left (λ bytes. answer_of bytes ≡ NotJson)
+Outcome left rb rn AtEnd took wb wn old new NotBuilt = AtEnd × (new ≡ old) × IfSome left (λ bytes. answer_of bytes ≡ NotBuilt)
+Outcome left rb rn AtEnd took wb wn old new (Bundle i cause) = AtEnd × (new ≡ old) × IfSome left (λ bytes. answer_of bytes ≡ Bundle i cause)
+Outcome left rb rn AtEnd took wb wn old new BadWords = ⊥

@@ -1,6 +1,6 @@
-ghost use Rattle.std.specs.Prelude.{◌≡◌, ◌≤◌, ◌↔◌, ◌⊎◌, List, true, length, Some, None, IsTrue, IfOk, IfErr, OnOk, IfSome};
-ghost use Rattle.writeable.specs.Sink.{TookPrefix, Rose};
-ghost use Rattle.reading.specs.Reading.{most_bytes};
+ghost use Rattle.std.specs.Prelude.{◌≡◌, ◌≤◌, ◌↔◌, ◌⊎◌, List, length, Some, None, IsTrue, IfOk, IfErr, OnOk, IfSome};
+ghost use Rattle.writeable_core.specs.Sink.{TookPrefix, Rose};
+ghost use Rattle.reading.specs.Reading.{most_bytes, IsReadToEnd};
 ghost use Rattle.localise.specs.Bundles.{Localises, refusal};
 ghost use Rattle.localise.specs.Kept.{meanings};
 ghost use Rattle.localise_run.specs.Contents.{Contents};
@@ -12,7 +12,7 @@ use crate::lines::write_lines;
 use localise::{BundleText, Localiser, RenderError};
 use reading::read_all;
 use std::alloc::Global;
-use writeable::{Sink, SinkError, Source};
+use writeable_core::{Sink, SinkError, Source};
 
 /// Runs the command that the words are: `render` reads a document from the source and appends one line
 /// per request to the output.
@@ -29,13 +29,14 @@ pub fn run<S: Source, O: Sink, E: Sink>(
     // were appended.
     ensures headline { result ≡ Status.Done → IfSome (S.left source.old)
         (λ bytes. Renders bytes (λ lines. Appended O.took O.held out.old lines out.new)) }
-    ensures read_to_end { ComesAtEnd result → S.ended source.new ≡ true }
+    ensures read_to_end { ComesAtEnd result → IsReadToEnd S.left S.ended S.faults source.old source.new }
 
     // Which answer comes: the one that the bytes have, unless a source, an output or memory fails.
     ensures bad_words { (result ≡ Status.BadWords) ↔ (IsRender words.now → ⊥) }
     ensures exact { IsRender words.now → IfSome (S.left source.old)
         (λ bytes. (result ≡ answer_of bytes) ⊎ IsFailure result) }
     ensures read_fault { result ≡ Status.ReadFault → Rose (S.faults source.old) (S.faults source.new) }
+    ensures no_fault { result ≡ Status.TooLong → S.faults source.new ≡ S.faults source.old }
     ensures write_fault { result ≡ Status.WriteFault → Rose (O.faults out.old) (O.faults out.new) }
 
     // A document that nothing refuses is rendered, unless memory runs out.
@@ -98,8 +99,8 @@ fn localiser_of(alloc: Global, bundles: Vec<BundleText>) -> Result<Localiser, St
 }
 
 fn render<S: Source, O: Sink>(alloc: Global, source: &mut S, out: &mut O) -> Status
-    ensures { Outcome (S.left source.old) (S.faults source.old) (S.faults source.new) (S.ended source.new)
-        O.took (O.faults out.old) (O.faults out.new) out.old out.new result }
+    ensures { Outcome (S.left source.old) (S.faults source.old) (S.faults source.new)
+        (IsReadToEnd S.left S.ended S.faults source.old source.new) O.took (O.faults out.old) (O.faults out.new) out.old out.new result }
 {
     let bytes = match read_all(alloc, source) {
         Ok(bytes) => bytes,

@@ -14,7 +14,7 @@ use localise::{BundleText, MoBytes, Request};
 use serde_json::{Map, Value};
 use std::alloc::{AllocError, Global};
 use std::marker::Model;
-use writeable::{OwnedText, TextList};
+use writeable_core::{OwnedText, TextList};
 
 /// What a document says.
 #[derive(Drop)]

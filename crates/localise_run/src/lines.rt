@@ -1,12 +1,12 @@
 ghost use Rattle.std.specs.Prelude.{OnOk, OnErr};
 ghost use Rattle.std.specs.List.{AllByRecursion};
-ghost use Rattle.writeable.specs.Sink.{TookPrefix, HasCause};
+ghost use Rattle.writeable_core.specs.Sink.{TookPrefix, HasCause};
 ghost use Rattle.localise.specs.Kept.{meanings};
 ghost use Rattle.localise.specs.Plain.{IsPlain};
 ghost use Rattle.localise_run.specs.Run.{line_of, output};
 
 use localise::{Localiser, Request};
-use writeable::{Sink, SinkError, Writeable};
+use writeable_core::{Sink, SinkError, Writeable};
 
 /// Writes a request's text and a line feed.
 fn write_line<O: Sink>(

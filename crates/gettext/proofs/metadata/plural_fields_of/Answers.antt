@@ -3,7 +3,8 @@ use Rattle.std.specs.List.{slice_split}
 use Rattle.std.proofs.lemmas.List.{map-append}
 use Rattle.std.proofs.lemmas.Iterator.Splits.{YieldsList-from_str_split}
 use Rattle.std.proofs.lemmas.Iterator.Consumers.{YieldsList-end}
-use Rattle.gettext.specs.Metadata.{shown, same_text, plural_fields, plural_in, is_semicolon}
+use Rattle.writeable_core.specs.Texts.{same_text}
+use Rattle.gettext.specs.Metadata.{shown, plural_fields, plural_in, is_semicolon}
 use Rattle.gettext.proofs.MetadataFields.{nothing_found, piece_skipped, piece_found, plural_is_no_count}
 use Rattle.gettext.proofs.metadata.plural_fields_of.Goals as goal
 

@@ -1,6 +1,6 @@
 use Rattle.std.proofs.lemmas.Result.{err_from_is_err_and}
+use Rattle.writeable_core.specs.FirstFailureLaws.{failed_first}
 use Rattle.gettext.specs.Mo.{text_conditions, forms_conditions, translation_conditions, text_of}
-use Rattle.gettext.proofs.Conditions.{failed_first}
 use Rattle.gettext.proofs.mo.forms_at.Goals as goal
 
 pub returns-in_err-text : goal.returns-in_err-text

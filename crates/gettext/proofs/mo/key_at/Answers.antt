@@ -1,6 +1,6 @@
 use Rattle.std.proofs.lemmas.Result.{err_from_is_err_and}
+use Rattle.writeable_core.specs.FirstFailureLaws.{failed_first}
 use Rattle.gettext.specs.Mo.{text_conditions, head_conditions, original_conditions, closed_text_of}
-use Rattle.gettext.proofs.Conditions.{failed_first}
 use Rattle.gettext.proofs.Rows.{key_read}
 use Rattle.gettext.proofs.mo.key_at.Goals as goal
 

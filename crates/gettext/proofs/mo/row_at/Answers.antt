@@ -1,6 +1,6 @@
 use Rattle.std.proofs.lemmas.Result.{err_from_is_err_and}
+use Rattle.writeable_core.specs.FirstFailureLaws.{failed_first}
 use Rattle.gettext.specs.Mo.{original_conditions, translation_conditions, row_conditions}
-use Rattle.gettext.proofs.Conditions.{failed_first}
 use Rattle.gettext.proofs.Rows.{row_read}
 use Rattle.gettext.proofs.mo.row_at.Goals as goal
 

@@ -1,5 +1,5 @@
 use Rattle.std.proofs.Common.{◌∙◌}
-use Rattle.localise.proofs.Same.{bytes_eq-chars}
+use Rattle.writeable_core.specs.TextLaws.{bytes_eq-chars}
 use Rattle.localise.proofs.bundle.is_same.Goals as goal
 
 pub returns : goal.returns

@@ -1,7 +1,8 @@
 -- One line more, or a front of it.
 use Rattle.std.proofs.Common.{sym, subst, List, ℕ, ◌<◌, length, arith}
+use Rattle.writeable_core.specs.SinkLaws.{on_err}
 use Rattle.localise.specs.Kept.{meanings}
-use Rattle.localise_run.proofs.Output.{output-take_more, front_of_output, on_err}
+use Rattle.localise_run.proofs.Output.{output-take_more, front_of_output}
 use Rattle.localise_run.proofs.lines.write_lines.Goals as goal
 
 pub returns-in_err-write_line-clause-err : goal.returns-in_err-write_line-clause-err

@@ -1,11 +1,11 @@
--- Each turn so far gave a byte at least, and what was given stands in the bytes.
-use Rattle.std.proofs.Common.{ℕ, ◌≤◌, List, length, Option}
+-- Each turn so far gave a byte at least, none failed, and what was given stands in the bytes.
+use Rattle.std.proofs.Common.{◌≡◌, ℕ, ◌≤◌, List, length, Option}
 use Rattle.std.specs.Io.KnownBytes.{Consumes}
 use Rattle.reading.proofs.turns.read_turns.Given as goal
 
 pub record Kept (left_before left : Option (List ℕ)) (faults_before faults turn most : ℕ) (bytes : List ℕ) : Type 0 where
   pub taken : Consumes left_before left bytes
-  pub later : faults_before ≤ faults
+  pub no_fault : faults ≡ faults_before
   pub each_turn : turn ≤ length bytes
   pub within : length bytes ≤ most
 

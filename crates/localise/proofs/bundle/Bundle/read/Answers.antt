@@ -1,7 +1,8 @@
--- The catalog stands for what the file means, and the locale is the tag.
+-- The catalog gives the forms that the file means, and the locale is the tag.
 use Rattle.std.proofs.Common.{◌≡◌, ℕ, List, rules, refl, subst}
 use Rattle.gettext.specs.Mo.{entries}
 use Rattle.gettext.specs.Options.{plain_options}
+use Rattle.gettext.specs.Table.{messages_of}
 use Rattle.localise.proofs.bundle.Bundle.read.Goals as goal
 
 pub returns-clause-ok : goal.returns-clause-ok
@@ -12,5 +13,5 @@ returns-clause-ok c =
       meaning = record { locale = c.args.text.now.tag; messages = sound.0 };
       means = record { locale = refl; messages = subst (λ (bytes : List ℕ). entries bytes plain_options sound.0) c.as_slice.ensures sound.1 };
       locale = copied;
-      stands = sound.2;
+      alike = c.one_meaning.ensures.alike _ plain_options sound.0 (messages_of c.in_ok-catalog.catalog.entries) sound.1 sound.2;
     }

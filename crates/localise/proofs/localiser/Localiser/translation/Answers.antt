@@ -2,7 +2,7 @@
 use Rattle.std.proofs.Common.{◌≡◌, ◌∷◌, [], map, codes, refl, sym, ap, ◌∙◌, true, false, None}
 use Rattle.std.specs.Option.{option_to_list}
 use Rattle.std.specs.Str.{chars}
-use Rattle.gettext.specs.Texts.{same_text}
+use Rattle.writeable_core.specs.Texts.{same_text}
 use Rattle.localise.specs.Chosen.{unknown, chosen, form_in, numbered_from}
 use Rattle.localise.specs.Kept.{meaning_of, meanings}
 use Rattle.localise.proofs.Walk.{chosen_at_unknown, chosen_past_tag}

@@ -3,7 +3,7 @@ use Rattle.std.proofs.Common.{◌≡◌, ◌∷◌, [], sym, subst, Some}
 use Rattle.std.specs.List.{slice_get}
 use Rattle.localise.specs.Bundles.{Localises}
 use Rattle.localise.specs.Kept.{meaning_of}
-use Rattle.localise.proofs.Same.{only_one}
+use Rattle.localise.proofs.Lists.{only_one}
 use Rattle.localise.proofs.Walk.{localises_one}
 use Rattle.localise.proofs.localiser.Localiser.try_new.Goals as goal
 

@@ -1,6 +1,0 @@
--- Texts as lists of characters, or of bytes.
-use Rattle.std.specs.Prelude.{ℕ, Bool, List, nat_eq}
-use Rattle.std.specs.Cmp.Lexicographic.{pointwise}
-
-abbrev pub same_text : List ℕ → List ℕ → Bool
-same_text = pointwise nat_eq
