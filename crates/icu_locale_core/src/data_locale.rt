@@ -9,7 +9,7 @@ use crate::{Language, LocaleError, Region, Script, Subtag, Variant, read};
 use std::cmp::Ordering;
 use std::fmt;
 use std::marker::Model;
-use writeable::{LengthHint, PartsWrite, Sink, SinkError, Writeable};
+use writeable_core::{LengthHint, PartsWrite, Sink, SinkError, Writeable};
 
 /// A locale that data is looked up by. Contracts see it as the record `Locale` of its subtags' texts.
 ///
@@ -164,8 +164,10 @@ impl fmt::Display for DataLocale {
 impl Writeable for DataLocale {
     ghost use Rattle.std.specs.Prelude.{false};
     ghost use Rattle.icu_locale_core.specs.Locale.{print};
-    ghost use Rattle.writeable.specs.Hint.{undefined, byte_length, Hinted-undefined};
-    ghost use Rattle.writeable.specs.Marks.{plain, characters-plain, Nests-plain};
+    ghost use Rattle.writeable_core.specs.Hint.{undefined, byte_length};
+    ghost use Rattle.writeable_core.specs.HintLaws.{Hinted-undefined};
+    ghost use Rattle.writeable_core.specs.Marks.{plain};
+    ghost use Rattle.writeable_core.specs.MarksLaws.{characters-plain, Nests-plain};
 
     ghost text = { print };
 

@@ -17,6 +17,3 @@ pub mod subtags;
 pub use data_locale::{DataLocale, print_determines};
 pub use error::LocaleError;
 pub use subtags::{Language, Region, Script, Subtag, Variant};
-
-#[cfg(test)]
-mod tests;

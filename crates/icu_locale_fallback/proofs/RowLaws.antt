@@ -5,7 +5,7 @@ use Rattle.std.specs.List.{AllZip, slice_get}
 use Rattle.std.proofs.lemmas.Option.{slice_get_read}
 use Rattle.std.proofs.Common.{length-take, get_or-take}
 use Rattle.icu_locale_core.proofs.ReadingLemmas.{print-determines}
-use Rattle.writeable.specs.declared.text.TextRow.{TextRow}
+use Rattle.writeable_core.specs.declared.text.TextRow.{TextRow}
 use Rattle.icu_locale_fallback.specs.declared.rows.FallbackRows.{FallbackRows}
 use Rattle.icu_locale_fallback.specs.declared.rows.TableError.{TableError}
 use Rattle.icu_locale_fallback.specs.declared.rows.TableError.TheVariants.{DuplicateKey, BadKey, BadValue, NoMemory}

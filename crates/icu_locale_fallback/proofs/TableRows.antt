@@ -6,7 +6,7 @@ use Rattle.std.specs.Ordering.{eq_by_cmp}
 use Rattle.std.proofs.lemmas.Bool.{false≢true}
 use Rattle.std.proofs.lemmas.List.{length_push}
 use Rattle.std.proofs.lemmas.Slice.Zip.{all_zipped_more}
-use Rattle.writeable.specs.declared.text.TextRow.{TextRow}
+use Rattle.writeable_core.specs.declared.text.TextRow.{TextRow}
 use Rattle.icu_locale_fallback.specs.Rows.{Misses, AreDistinct, IsTableOf}
 use Rattle.icu_locale_fallback.specs.Triple.{Triple, triple_cmp}
 use Rattle.icu_locale_fallback.proofs.TripleOrder.{triple_cmp_total, triple_cmp-IsAntisymmetric, ties_itself, equal_of_tie}

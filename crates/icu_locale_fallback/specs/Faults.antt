@@ -1,7 +1,7 @@
 -- What an error says of the rows that make no fallbacker.
 use Rattle.std.specs.Prelude.{◌≡◌, ℕ, List, take}
 use Rattle.std.specs.FinMap as finite
-use Rattle.writeable.specs.declared.text.TextRow.{TextRow}
+use Rattle.writeable_core.specs.declared.text.TextRow.{TextRow}
 use Rattle.icu_locale_fallback.specs.declared.rows.FallbackRows.{FallbackRows}
 use Rattle.icu_locale_fallback.specs.declared.rows.TableError.{TableError}
 use Rattle.icu_locale_fallback.specs.declared.rows.TableError.TheVariants.{DuplicateKey, BadKey, BadValue, NoMemory}

@@ -3,7 +3,7 @@ use Rattle.std.specs.Prelude.{◌≡◌, ℕ, List, [], ◌∷◌, Some, None, m
 use Rattle.std.specs.FinMap as finite
 use Rattle.std.specs.List.{AllZip}
 use Rattle.icu_locale_core.specs.Shapes.{IsLanguage, IsScript, IsRegion}
-use Rattle.writeable.specs.declared.text.TextRow.{TextRow}
+use Rattle.writeable_core.specs.declared.text.TextRow.{TextRow}
 use Rattle.icu_locale_fallback.specs.Tables.{Likely}
 use Rattle.icu_locale_fallback.specs.Cells.{PrintsAs}
 use Rattle.icu_locale_fallback.specs.Triple.{Triple, triple_cmp, language_alone}

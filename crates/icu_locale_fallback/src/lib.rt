@@ -32,6 +32,3 @@ pub use config::{LocaleFallbackConfig, LocaleFallbackPriority};
 pub use fallbacker::{LocaleFallbacker, LocaleFallbackerBorrowed, LocaleFallbackerWithConfig};
 pub use iterator::LocaleFallbackIterator;
 pub use rows::{FallbackRows, TableError};
-
-#[cfg(test)]
-mod tests;

@@ -8,7 +8,7 @@ use crate::triple::Triple;
 use std::alloc::{AllocError, Global};
 use std::collections::BTreeMap;
 use std::marker::Model;
-use writeable::TextRow;
+use writeable_core::TextRow;
 
 /// Values by the subtags that they are for.
 #[derive(Drop)]

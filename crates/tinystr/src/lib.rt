@@ -11,6 +11,3 @@ mod tiny_str;
 
 pub use error::TinyError;
 pub use tiny_str::TinyStr;
-
-#[cfg(test)]
-mod tests;

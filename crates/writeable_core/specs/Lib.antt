@@ -1,7 +1,10 @@
+pub mod FirstFailure
+pub mod FirstFailureLaws
 pub mod Hint
 pub mod HintLaws
 pub mod Marks
 pub mod MarksLaws
+pub mod OrderingLaws
 pub mod Sink
 pub mod SinkLaws
 pub mod SliceSource

@@ -1,6 +1,6 @@
 use Rattle.std.proofs.Common.{◌<◌, ◌+◌, subst, arith, length, Ok, Err, Result}
 use Rattle.std.specs.Prelude.{OnErr}
-use Rattle.writeable.specs.Sink.{TookPrefix}
+use Rattle.writeable_core.specs.Sink.{TookPrefix}
 use Rattle.icu_locale_core.proofs.Pieces.{pieces-more, pieces-parts, text_from}
 use Rattle.icu_locale_core.proofs.ShapeLemmas.{print-IsAscii}
 use Rattle.icu_locale_core.proofs.data_locale.DataLocaleWriteable.write_to.Goals as goal
