@@ -1,4 +1,5 @@
--- The locale that data is looked up by, and its printed text (UTS 35, Part 1, sections 3.2 and 3.6.5; RFC 5646, section 2.1).
+-- The locale that data is looked up by, and its printed text (UTS 35, Unicode locale
+-- identifiers; RFC 5646, section 2.1).
 use Rattle.std.specs.Prelude.{◌≡◌, ℕ, List, [], ◌++◌, Option, Some, None, IfSome, codes}
 use Rattle.icu_locale_core.specs.Shapes.{IsLanguage, IsScript, IsRegion, IsVariant, IsSubtag}
 

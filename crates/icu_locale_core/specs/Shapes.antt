@@ -1,5 +1,5 @@
--- The shapes of subtags in canonical case: UTS 35, Part 1, section 3.2, and RFC 5646, section 2.1; on case, RFC 5646,
--- section 2.1.1.
+-- The shapes of subtags in canonical case: UTS 35, Unicode locale identifiers, and RFC 5646,
+-- section 2.1; on case, RFC 5646, section 2.1.1.
 use Rattle.std.specs.Prelude.{ℕ, Bool, ◌&&◌, ◌||◌, ◌==◌, List, length, drop, slice_index, IsTrue}
 use Rattle.std.specs.Char.{is_ascii_digit, is_ascii_lowercase, is_ascii_uppercase}
 use Rattle.std.specs.Int.{is_in_range}
@@ -42,7 +42,7 @@ is_variant text =
 abbrev pub IsVariant : List ℕ → Type 0
 IsVariant text = IsTrue (is_variant text)
 
--- two to eight letters or digits, as the value of the key `sd` is (section 3.6.5)
+-- two to eight letters or digits, as the value of the key `sd` is (UTS 35, subdivision codes)
 abbrev pub is_subtag : List ℕ → Bool
 is_subtag text = is_in_range 2 8 (length text) && list_all is_small text
 

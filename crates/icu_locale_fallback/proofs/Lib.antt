@@ -11,3 +11,4 @@ pub mod Lowercase
 pub mod Cells
 pub mod TableRows
 pub mod RowLaws
+pub mod OneFault

@@ -41,6 +41,11 @@ pub record AreLikelySound (rows : FallbackRows) : Type 0 where
   pub language_script : AreSound LanguageScriptKey RegionValue rows.likely_language_script.items
   pub language_region : AreSound LanguageRegionKey ScriptValue rows.likely_language_region.items
 
+-- no row is faulty
+pub record AreRowsSound (rows : FallbackRows) : Type 0 where
+  pub likely : AreLikelySound rows
+  pub parents : AreSound ChildKey ParentValue rows.parents.items
+
 -- the first fault of the tables 0 to 2, in this order
 pub data IsLikelyFault (rows : FallbackRows) (error : TableError) : Type 0 where
   in_language : IsFaultOf LanguageKey LikelyValue 0 rows.likely_language.items error → IsLikelyFault rows error

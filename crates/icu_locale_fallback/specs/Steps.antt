@@ -1,12 +1,12 @@
--- One step of a walk in each priority (UTS 35, Part 1, section 4.1, Lookup, and 4.1.4, Region-Priority Inheritance, as
--- `icu_locale_fallback` applies them).
-use Rattle.std.specs.Prelude.{ℕ, suc, zero, List, [], ◌∷◌, Option, Some, None, Bool, ◌&&◌, ◌||◌, not, is_some, unwrap_or, if◌then◌else◌}
+-- One step of a walk in each priority (UTS 35, locale inheritance and matching, as `icu_locale_fallback` applies it).
+use Rattle.std.specs.Prelude.{◌≡◌, ◌≤◌, ℕ, suc, zero, List, [], ◌∷◌, Option, Some, None, Bool, ◌&&◌, ◌||◌, not, is_some, unwrap_or, if◌then◌else◌}
 use Rattle.std.specs.FinMap as map
 use Rattle.std.specs.Option.{option_map}
+use Rattle.icu_locale_core.specs.Equality.{same_text, same_subtag}
 use Rattle.icu_locale_core.specs.Locale.{Locale, unknown}
 use Rattle.icu_locale_fallback.specs.declared.config.LocaleFallbackPriority.{LocaleFallbackPriority}
 use Rattle.icu_locale_fallback.specs.declared.config.LocaleFallbackPriority.TheVariants.{Language, Script, Region}
-use Rattle.icu_locale_fallback.specs.Normal.{normal, first_script, text_eq, subtag_eq}
+use Rattle.icu_locale_fallback.specs.Normal.{normal, first_script}
 use Rattle.icu_locale_fallback.specs.Tables.{Tables, likely_script}
 use Rattle.icu_locale_fallback.specs.Triple.{triple_of}
 use Rattle.icu_locale_fallback.specs.Walk.{is_unknown, script_without_region}
@@ -56,7 +56,7 @@ with_kept_region F first r =
 
 -- whether a locale has a language, one that is known
 abbrev pub has_language : Locale → Bool
-has_language l = not (text_eq l.language unknown.language)
+has_language l = not (same_text l.language unknown.language)
 
 -- language and script go
 abbrev pub to_unknown_language : Reached → Reached
@@ -98,7 +98,7 @@ region_rules r =
 -- kept beside it
 abbrev pub without_likely_script : Tables → Reached → Option Reached
 without_likely_script F r =
-    if has_language r.locale && (is_some r.locale.script && subtag_eq r.locale.script (likely_script F.likely r.locale.language))
+    if has_language r.locale && (is_some r.locale.script && same_subtag r.locale.script (likely_script F.likely r.locale.language))
     then Some
     (if is_some r.kept_region
     then record {
@@ -155,6 +155,11 @@ start F priority l = at_rest (normal F.likely priority l)
 unfoldable pub reached : Tables → LocaleFallbackPriority → Locale → ℕ → Reached
 reached F priority l zero = start F priority l
 reached F priority l (suc k) = step_of priority F (first_script F.likely priority l) (reached F priority l k)
+
+-- a walk that has come to the unknown locale stays where it is
+abbrev pub StaysAtUnknown : Tables → LocaleFallbackPriority → Locale → Type 0
+StaysAtUnknown F priority l =
+    (k n : ℕ) → (reached F priority l k).locale ≡ unknown → k ≤ n → reached F priority l n ≡ reached F priority l k
 
 -- the locales of a walk in the region priority, and of one in the script priority
 abbrev pub region_at : Tables → Locale → ℕ → Locale

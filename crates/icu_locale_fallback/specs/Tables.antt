@@ -1,4 +1,4 @@
--- The tables of a fallbacker: likely subtags (UTS 35, Part 1, section 4.3) and parent locales (section 4.1.3).
+-- The tables of a fallbacker: likely subtags and parent locales (UTS 35).
 use Rattle.std.specs.Prelude.{ℕ, List, Option, Some, None, refl}
 use Rattle.std.specs.Coded.{Coded, code_by, coded×, coded_ℕ, coded_list}
 use Rattle.std.specs.Option.{option_map, option_or, option_and_then}

@@ -1,17 +1,18 @@
--- The walk from a locale to the unknown one in the language priority (UTS 35, Part 1, section 4.1, Lookup, and 4.1.3, Parent
--- Locales, as `icu_locale_fallback` applies them), as a list of locales.
+-- The walk from a locale to the unknown one in the language priority (UTS 35, locale inheritance and matching, as
+-- `icu_locale_fallback` applies it), as a list of locales.
 use Rattle.std.specs.Prelude.{◌≡◌, ℕ, suc, zero, ◌+◌, ◌-◌, ◌*◌, ◌<◌, ◌≤◌, List, Option, Some, None, Bool, false, true, ◌&&◌, ◌⊎◌, is_some, is_none, if◌then◌else◌}
 use Rattle.std.specs.FinMap as map
+use Rattle.icu_locale_core.specs.Equality.{same_text, same_subtag}
 use Rattle.icu_locale_core.specs.Locale.{Locale, unknown}
 use Rattle.icu_locale_fallback.specs.declared.config.LocaleFallbackPriority.TheVariants.{Language}
 use Rattle.icu_locale_fallback.specs.Triple.{Triple, triple_of}
 use Rattle.icu_locale_fallback.specs.Tables.{Tables, likely_script}
-use Rattle.icu_locale_fallback.specs.Normal.{normal, first_script, text_eq, subtag_eq}
+use Rattle.icu_locale_fallback.specs.Normal.{normal, first_script}
 
 -- language `und` and nothing else
 abbrev pub is_unknown : Locale → Bool
 is_unknown l =
-    text_eq l.language unknown.language
+    same_text l.language unknown.language
     && (is_none l.script && (is_none l.region && (is_none l.variant && is_none l.subdivision)))
 
 -- what one step does to a locale
@@ -45,7 +46,7 @@ pub record Point : Type 0 where
 -- the script that is left when the region goes: none where the first script is the language's likely one, else the first
 abbrev pub script_without_region : Tables → Option (List ℕ) → List ℕ → Option (List ℕ)
 script_without_region F first language =
-    if subtag_eq (likely_script F.likely language) first then None else first
+    if same_subtag (likely_script F.likely language) first then None else first
 
 -- the step that a rule makes from l, where v is kept
 abbrev pub step_by : Rule → Tables → Option (List ℕ) → Locale → Option (List ℕ) → Point
@@ -105,3 +106,11 @@ pub record EndsOrRepeats (F : Tables) (l : Locale) : Type 0 where
 abbrev pub RevisitsOnly : Tables → Locale → Type 0
 RevisitsOnly F l =
     (k n : ℕ) → Repeats F l k → k ≤ n → ((j : ℕ) × (j < k) × (at F l n ≡ at F l j))
+
+-- the unknown locale is never left
+abbrev pub StaysUnknown : Tables → Locale → Type 0
+StaysUnknown F l = (k n : ℕ) → at F l k ≡ unknown → k ≤ n → at F l n ≡ unknown
+
+-- a walk that comes to the unknown locale repeats at no step
+abbrev pub NeverRepeats : Tables → Locale → Type 0
+NeverRepeats F l = (n k : ℕ) → at F l n ≡ unknown → ¬ (Repeats F l k)

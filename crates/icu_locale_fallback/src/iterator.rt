@@ -266,9 +266,10 @@ impl<'a> LocaleFallbackIterator<'a> {
         true
     }
 
+    /// Whether the language is known.
     fn has_language(&self) -> bool
         ensures { result ≡ has_language (walk_of self.now).reached.locale }
     {
-        self.locale.language != Language::unknown()
+        !self.locale.language.is_unknown()
     }
 }

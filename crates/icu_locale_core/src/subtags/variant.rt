@@ -30,7 +30,7 @@ impl Model for Variant {
 
 impl Variant {
     /// The subtag of this text, which must be in canonical case.
-    #[tactic(auto, using(crate::proofs::ShapeLemmas::tiny_variant))]
+    #[tactic(auto, using(crate::specs::ShapeLaws::tiny_variant))]
     pub fn try_from_str(text: &str) -> Result<Variant, LocaleError>
         ensures { OkIff result (IsVariant text.now) text.now }
     {
