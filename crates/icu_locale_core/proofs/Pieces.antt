@@ -15,7 +15,8 @@ text_from pieces i = concat (map (λ piece. piece.now) (drop i pieces))
 
 module _ (pieces : List (Bor (List ℕ))) (i : ℕ) (d : Bor (List ℕ)) where
   -- the piece at i compares with the front of the rest, and what follows with what is behind
-  cmp-piece : (n : ℕ) (rest piece front back : List ℕ) → i < length pieces → piece ≡ (get_or pieces i d).now
+  cmp-piece : (n : ℕ) (rest piece front back : List ℕ) → i < length pieces
+      → piece ≡ (get_or pieces i d).now
       → n ≡ min (length (get_or pieces i d).now) (length rest) → front ≡ take n rest → back ≡ drop n rest
       → slice_cmp nat_cmp (text_from pieces i) rest
       ≡ ordering_then (slice_cmp nat_cmp piece front) (slice_cmp nat_cmp (text_from pieces (i + 1)) back)
@@ -24,7 +25,8 @@ module _ (pieces : List (Bor (List ℕ))) (i : ℕ) (d : Bor (List ℕ)) where
       ∙ rw (read, ahead, behind) (slice_cmp-cut n (get_or pieces i d).now rest (text_from pieces (i + 1)) is)
 
   -- a piece that compares equal leaves the answer to what follows
-  pub cmp-equal_piece : (n : ℕ) (rest piece front back : List ℕ) → i < length pieces → piece ≡ (get_or pieces i d).now
+  pub cmp-equal_piece : (n : ℕ) (rest piece front back : List ℕ) → i < length pieces
+      → piece ≡ (get_or pieces i d).now
       → n ≡ min (length (get_or pieces i d).now) (length rest) → front ≡ take n rest → back ≡ drop n rest
       → Equal ≡ slice_cmp nat_cmp piece front
       → slice_cmp nat_cmp (text_from pieces i) rest ≡ slice_cmp nat_cmp (text_from pieces (i + 1)) back
@@ -56,6 +58,7 @@ IsAscii-behind : (a b : List ℕ) → IsAscii (a ++ b) → IsAscii b
 IsAscii-behind a b h =
     subst IsAscii (drop_at a b (length a) refl) (IsAscii-drop (a ++ b) (length a) h)
 
+-- and so is the one in front
 IsAscii-front : (a b : List ℕ) → IsAscii (a ++ b) → IsAscii a
 IsAscii-front a b h =
     subst IsAscii (take_at a b (length a) refl) (IsAscii-take (a ++ b) (length a) h)

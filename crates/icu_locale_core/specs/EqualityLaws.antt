@@ -6,9 +6,11 @@ use Rattle.std.proofs.lemmas.Slice.Eq.{bytes_eq-Decides}
 use Rattle.icu_locale_core.specs.Equality.{same_text, same_subtag, same_locale}
 use Rattle.icu_locale_core.specs.Locale.{Locale}
 
+-- of texts
 pub same_text-Decides : (a b : List ℕ) → Decides (same_text a b) (a ≡ b)
 same_text-Decides = bytes_eq-Decides
 
+-- of subtags
 pub same_subtag-Decides : (a b : Option (List ℕ)) → Decides (same_subtag a b) (a ≡ b)
 same_subtag-Decides None None = (λ _. refl, λ _. refl)
 same_subtag-Decides None (Some t) = (λ e. cc, λ e. cc)
@@ -26,6 +28,7 @@ both false q e = cc
 joined : (p q : Bool) → p ≡ true → q ≡ true → (p && q) ≡ true
 joined p q e f = rw (e, f) refl
 
+-- of locales
 pub same_locale-Decides : (a b : Locale) → Decides (same_locale a b) (a ≡ b)
 same_locale-Decides a b = (
   λ e.

@@ -14,14 +14,21 @@ pub record Locale : Type 0 where
 -- `und` and nothing else: the locale of which nothing is known
 abbrev pub unknown : Locale
 unknown =
-    record { language = codes "und"; script = None; region = None; variant = None; subdivision = None }
+    record {
+      language = codes "und";
+      script = None;
+      region = None;
+      variant = None;
+      subdivision = None;
+    }
 
 -- a subtag, where there is one, behind `mark`
 abbrev pub marked : List ℕ → Option (List ℕ) → List ℕ
 marked mark None = []
 marked mark (Some subtag) = mark ++ subtag
 
--- the printed text: the language, `-` and each of script, region and variant, then `-u-sd-` and the subdivision
+-- the printed text: the language, `-` and each of script, region and variant, then `-u-sd-` and
+-- the subdivision
 abbrev pub print : Locale → List ℕ
 print locale =
     locale.language ++ marked (codes "-") locale.script ++ marked (codes "-") locale.region
@@ -42,4 +49,5 @@ IsPrinted text = (locale : Locale) × IsLocale locale × (print locale ≡ text)
 
 -- the printed text determines the locale
 abbrev pub PrintDetermines : Type 0
-PrintDetermines = (one other : Locale) → IsLocale one → IsLocale other → print one ≡ print other → one ≡ other
+PrintDetermines =
+    (one other : Locale) → IsLocale one → IsLocale other → print one ≡ print other → one ≡ other

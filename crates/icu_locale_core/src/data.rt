@@ -11,10 +11,12 @@ use std::fmt;
 use std::marker::Model;
 use writeable_core::{LengthHint, PartsWrite, Sink, SinkError, Writeable};
 
-/// A locale that data is looked up by. Contracts see it as the record `Locale` of its subtags' texts.
+/// A locale that data is looked up by. Contracts see it as the record `Locale` of its subtags'
+/// texts.
 ///
-/// It prints as its language, then `-` and each of script, region and variant that is there, then `-u-sd-` and the
-/// subdivision, as `sr-Latn-ME` and `en-US-u-sd-usca` do (UTS 35, Unicode locale identifiers).
+/// It prints as its language, then `-` and each of script, region and variant that is there,
+/// then `-u-sd-` and the subdivision, as `sr-Latn-ME` and `en-US-u-sd-usca` do (UTS 35, Unicode
+/// locale identifiers).
 #[derive(Clone, Copy, Debug, PartialEq, Eq)]
 pub struct DataLocale {
     pub language: Language,

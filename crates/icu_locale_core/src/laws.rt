@@ -1,4 +1,5 @@
-//! Laws of data locales, for contracts that cite them. Each function does nothing: its contract is the law.
+//! Laws of data locales, for contracts that cite them. Each function does nothing: its contract
+//! is the law.
 ghost use Rattle.std.specs.Prelude.{◌≡◌, ◌↔◌, IsTrue};
 ghost use Rattle.icu_locale_core.specs.Locale.{Locale, PrintDetermines};
 

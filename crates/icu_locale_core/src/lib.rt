@@ -11,8 +11,8 @@
 //! assert!(DataLocale::default().is_unknown());
 //! ```
 //!
-//! Each subtag is a small text of its shape in canonical case. Every value is copied like a number,
-//! and no call takes memory.
+//! Each subtag is a small text of its shape in canonical case. Every value is copied like a
+//! number, and no call takes memory.
 //!
 //! - `data`: [`DataLocale`], how it is read, printed and compared.
 //! - `subtags`: [`Language`], [`Script`], [`Region`], [`Variant`] and [`Subtag`].

@@ -1,4 +1,5 @@
--- The subtags of a cell. A cell is seen as its characters and read as its bytes; those of a subtag are the same.
+-- The subtags of a cell. A cell is seen as its characters and read as its bytes; those of a
+-- subtag are the same.
 use Rattle.std.proofs.Common.{◌≡◌, ℕ, List, Option, Some, None, Result, Ok, Err, IsUtf8, MatchOption, sym, ap, ◌∙◌, subst}
 use Rattle.std.specs.Option.{SomeIff}
 use Rattle.std.specs.Result.{OkIff, result_ok}
@@ -12,17 +13,20 @@ use Rattle.icu_locale_core.specs.ShapeLaws.{print-IsAscii}
 use Rattle.icu_locale_fallback.specs.Cells.{locale_of, IsLocaleOf, IsLocaleOfNone, PrintsAs, PrintsNone}
 use Rattle.icu_locale_fallback.specs.Triple.{Triple}
 
--- the bytes of a text that is seen as ASCII characters, and the characters of one that is read as ASCII bytes
+-- the bytes of a text that is seen as ASCII characters
 pub bytes_of : (text cell : List ℕ) → IsUtf8 text → chars text ≡ cell → IsAscii cell → text ≡ cell
 bytes_of text cell utf8 is ascii =
     sym (encodes-chars text utf8) ∙ ap encodes is ∙ encodes-IsAscii cell ascii
 
+-- the characters of a text that is read as ASCII bytes
 pub characters_of : (text cell : List ℕ) → chars text ≡ cell → IsAscii text → text ≡ cell
 characters_of text cell is ascii = sym (chars-IsAscii text ascii) ∙ is
 
 -- a subtag that is read from a cell is that of its characters
 module _ (Shape : List ℕ → Type 0) (is_ascii : (text : List ℕ) → Shape text → IsAscii text) {E : Type 0} where
-  pub subtag_of_cell : (read : Result (List ℕ) E) (text cell : List ℕ) → IsUtf8 text → chars text ≡ cell → OkIff read (Shape text) text → SomeIff (result_ok read) (Shape cell) cell
+  pub subtag_of_cell : (read : Result (List ℕ) E) (text cell : List ℕ) → IsUtf8 text
+      → chars text ≡ cell → OkIff read (Shape text) text
+      → SomeIff (result_ok read) (Shape cell) cell
   subtag_of_cell (Ok subtag) text cell utf8 is (shape, same) =
       let e = characters_of text cell is (is_ascii text shape) in
       (subst Shape e shape, same ∙ e)
@@ -37,7 +41,9 @@ module _ (text cell : List ℕ) (utf8 : IsUtf8 text) (is : chars text ≡ cell) 
       h.printed ∙ sym (bytes_of text cell utf8 is ascii)
 
   -- what a locale that is read says of the cell's triple
-  pub triple_of_cell : (o : Option Triple) (l : Locale) → IsLocale l → print l ≡ text → MatchOption o (IsLocaleOfNone l) (IsLocaleOf l) → MatchOption o (PrintsNone cell) (PrintsAs cell)
+  pub triple_of_cell : (o : Option Triple) (l : Locale) → IsLocale l → print l ≡ text
+      → MatchOption o (IsLocaleOfNone l) (IsLocaleOf l)
+      → MatchOption o (PrintsNone cell) (PrintsAs cell)
   triple_of_cell (Some t) l shape printed same =
       let shape_is : IsLocale (locale_of t) = subst IsLocale (sym same) shape in
       let text_is : print (locale_of t) ≡ text = ap print same ∙ printed in

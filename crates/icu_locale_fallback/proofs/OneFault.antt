@@ -28,31 +28,42 @@ row_of NoMemory = 0
 
 module _ {X : Type 0} (key : TextRow → Triple → Type 0) (value : TextRow → X → Type 0) (number : ℕ) where
   -- a fault is one of the rows up to its own
-  among : (n : ℕ) (rows : List TextRow) (e : TableError) → row_of e < n → IsFaultOf key value number rows e
+  among : (n : ℕ) (rows : List TextRow) (e : TableError) → row_of e < n
+      → IsFaultOf key value number rows e
       → IsFaultOf key value number (take n rows) e
-  among n rows (BadKey table i) lt (is, fault) = (is, record {
-    before = subst (AreSound key value) (sym (take-take i n rows (omega arith))) fault.before;
-    row = fault.row;
-    row_is = get_less i n rows lt ∙ fault.row_is;
-    fault_is = fault.fault_is;
-  })
-  among n rows (BadValue table i) lt (is, fault) = (is, record {
-    before = subst (AreSound key value) (sym (take-take i n rows (omega arith))) fault.before;
-    row = fault.row;
-    row_is = get_less i n rows lt ∙ fault.row_is;
-    fault_is = fault.fault_is;
-  })
+  among n rows (BadKey table i) lt (is, fault) = (
+    is,
+    record {
+      before = subst (AreSound key value) (sym (take-take i n rows (omega arith))) fault.before;
+      row = fault.row;
+      row_is = get_less i n rows lt ∙ fault.row_is;
+      fault_is = fault.fault_is;
+    },
+  )
+  among n rows (BadValue table i) lt (is, fault) = (
+    is,
+    record {
+      before = subst (AreSound key value) (sym (take-take i n rows (omega arith))) fault.before;
+      row = fault.row;
+      row_is = get_less i n rows lt ∙ fault.row_is;
+      fault_is = fault.fault_is;
+    },
+  )
   among n rows (DuplicateKey table i) lt (is, fault) =
-      let same = take-take i n rows (omega arith) in (is, record {
-        before = subst (AreSound key value) (sym same) fault.before;
-        row = fault.row;
-        row_is = get_less i n rows lt ∙ fault.row_is;
-        fault_is = subst (λ earlier. HasEarlierKey key value earlier fault.row) (sym same) fault.fault_is;
-      })
+      let same = take-take i n rows (omega arith) in (
+        is,
+        record {
+          before = subst (AreSound key value) (sym same) fault.before;
+          row = fault.row;
+          row_is = get_less i n rows lt ∙ fault.row_is;
+          fault_is = subst (λ earlier. HasEarlierKey key value earlier fault.row) (sym same) fault.fault_is;
+        },
+      )
   among n rows NoMemory lt fault = tt
 
   -- the rows before a faulty one are sound
-  sound_before : (rows : List TextRow) (e : TableError) → e ≢ NoMemory → IsFaultOf key value number rows e
+  sound_before : (rows : List TextRow) (e : TableError) → e ≢ NoMemory
+      → IsFaultOf key value number rows e
       → AreSound key value (take (row_of e) rows)
   sound_before rows (BadKey table i) other (is, fault) = fault.before
   sound_before rows (BadValue table i) other (is, fault) = fault.before
@@ -60,13 +71,15 @@ module _ {X : Type 0} (key : TextRow → Triple → Type 0) (value : TextRow →
   sound_before rows NoMemory other fault = absurd (other refl)
 
   -- the row at one place
-  one_row : (rows : List TextRow) (i j : ℕ) (row other : TextRow) → i ≡ j → slice_get rows i ≡ Some row
+  one_row : (rows : List TextRow) (i j : ℕ) (row other : TextRow) → i ≡ j
+      → slice_get rows i ≡ Some row
       → slice_get rows j ≡ Some other → row ≡ other
   one_row rows i j row other same at_i at_j =
       let both : Some row ≡ Some other = sym at_i ∙ ap (slice_get rows) same ∙ at_j in cc
 
   -- two faults of one row are one
-  same_row : (rows : List TextRow) (e f : TableError) → e ≢ NoMemory → f ≢ NoMemory → row_of e ≡ row_of f
+  same_row : (rows : List TextRow) (e f : TableError) → e ≢ NoMemory → f ≢ NoMemory
+      → row_of e ≡ row_of f
       → IsFaultOf key value number rows e → IsFaultOf key value number rows f → e ≡ f
   same_row rows (BadKey t i) (BadKey u j) n m same (p, a) (q, b) = λ k. BadKey ((p ∙ sym q) k) (same k)
   same_row rows (BadValue t i) (BadValue u j) n m same (p, a) (q, b) = λ k. BadValue ((p ∙ sym q) k) (same k)
@@ -97,7 +110,8 @@ module _ {X : Type 0} (key : TextRow → Triple → Type 0) (value : TextRow →
   module _ (one_key : (row : TextRow) (j k : Triple) → key row j → key row k → j ≡ k)
       (one_value : (row : TextRow) (v w : X) → value row v → value row w → v ≡ w) where
     -- no faulty row stands before the first one
-    not_before : (rows : List TextRow) (e f : TableError) → e ≢ NoMemory → f ≢ NoMemory → row_of e < row_of f
+    not_before : (rows : List TextRow) (e f : TableError) → e ≢ NoMemory → f ≢ NoMemory
+        → row_of e < row_of f
         → IsFaultOf key value number rows e → IsFaultOf key value number rows f → ⊥
     not_before rows e f n m lt a b =
         n (no_fault key value one_key one_value number (take (row_of f) rows) (sound_before rows f m b) e

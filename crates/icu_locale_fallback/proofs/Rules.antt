@@ -10,7 +10,8 @@ use Rattle.icu_locale_fallback.specs.Tables.{Tables}
 use Rattle.icu_locale_fallback.specs.Walk.{Rule, stays, drops_subdivision, drops_variant, to_parent, drops_region, drops_language, rule, parent_or, is_unknown}
 
 -- the same subtags make the same locale
-same_subtags : (a b : Locale) → a.language ≡ b.language → a.script ≡ b.script → a.region ≡ b.region → a.variant ≡ b.variant → a.subdivision ≡ b.subdivision → a ≡ b
+same_subtags : (a b : Locale) → a.language ≡ b.language → a.script ≡ b.script
+    → a.region ≡ b.region → a.variant ≡ b.variant → a.subdivision ≡ b.subdivision → a ≡ b
 same_subtags a b l s r v d i = record { language = l i; script = s i; region = r i; variant = v i; subdivision = d i }
 
 -- what is not there is none
@@ -41,8 +42,10 @@ pub data Applies (F : Tables) (l : Locale) : Rule → Type 0 where
   at_unknown : l ≡ unknown → Applies F l stays
   with_subdivision : is_some l.subdivision ≡ true → Applies F l drops_subdivision
   with_variant : l.subdivision ≡ None → is_some l.variant ≡ true → Applies F l drops_variant
-  with_parent : {parent : Triple} → l.subdivision ≡ None → l.variant ≡ None → map.get F.parents (triple_of l) ≡ Some parent → Applies F l (to_parent parent)
-  with_region : l.subdivision ≡ None → l.variant ≡ None → is_some l.region ≡ true → Applies F l drops_region
+  with_parent : {parent : Triple} → l.subdivision ≡ None → l.variant ≡ None
+      → map.get F.parents (triple_of l) ≡ Some parent → Applies F l (to_parent parent)
+  with_region : l.subdivision ≡ None → l.variant ≡ None → is_some l.region ≡ true
+      → Applies F l drops_region
   with_language : l.subdivision ≡ None → l.variant ≡ None → Applies F l drops_language
 
 -- what is not there is none
@@ -58,22 +61,28 @@ applies F l =
       | false ↦ λ e. behind_unknown
     ] refl
   where
+    -- the rules behind those for subdivision and variant
     after_variant : Rule
     after_variant = parent_or (map.get F.parents (triple_of l)) (cond (is_some l.region) drops_region drops_language)
 
+    -- the rules behind that for the subdivision
     after_subdivision : Rule
     after_subdivision = cond (is_some l.variant) drops_variant after_variant
 
+    -- the rules behind that for the unknown locale
     after_unknown : Rule
     after_unknown = cond (is_some l.subdivision) drops_subdivision after_subdivision
 
-    behind_parent : l.subdivision ≡ None → l.variant ≡ None → Applies F l (cond (is_some l.region) drops_region drops_language)
+    -- where there is no parent
+    behind_parent : l.subdivision ≡ None → l.variant ≡ None
+        → Applies F l (cond (is_some l.region) drops_region drops_language)
     behind_parent s v =
         elim (is_some l.region) as (λ b. is_some l.region ≡ b → Applies F l (cond b drops_region drops_language)) [
           | true ↦ λ e. with_region s v e
           | false ↦ λ e. with_language s v
         ] refl
 
+    -- where there is no variant
     behind_variant : l.subdivision ≡ None → l.variant ≡ None → Applies F l after_variant
     behind_variant s v =
         elim (map.get F.parents (triple_of l)) as (λ o. map.get F.parents (triple_of l) ≡ o → Applies F l (parent_or o (cond (is_some l.region) drops_region drops_language))) [
@@ -81,6 +90,7 @@ applies F l =
           | None ↦ λ e. behind_parent s v
         ] refl
 
+    -- where there is no subdivision
     behind_subdivision : l.subdivision ≡ None → Applies F l after_subdivision
     behind_subdivision s =
         elim (is_some l.variant) as (λ b. is_some l.variant ≡ b → Applies F l (cond b drops_variant after_variant)) [
@@ -88,6 +98,7 @@ applies F l =
           | false ↦ λ e. behind_variant s (absent l.variant e)
         ] refl
 
+    -- where the locale is not the unknown one
     behind_unknown : Applies F l after_unknown
     behind_unknown =
         elim (is_some l.subdivision) as (λ b. is_some l.subdivision ≡ b → Applies F l (cond b drops_subdivision after_subdivision)) [

@@ -16,6 +16,7 @@ use Rattle.icu_locale_fallback.proofs.Revisits.{revisits}
 abbrev from : Tables → Locale → Point
 from F l = record { locale = normal F.likely Language l; kept = None }
 
+-- the walk ends or repeats
 pub EndsOrRepeats-holds : (F : Tables) (l : Locale) → EndsOrRepeats F l
 unfolding at
 EndsOrRepeats-holds F l =
@@ -29,6 +30,7 @@ EndsOrRepeats-holds F l =
       ];
     }
 
+-- behind a repeat nothing new comes
 pub RevisitsOnly-holds : (F : Tables) (l : Locale) → RevisitsOnly F l
 unfolding at
 RevisitsOnly-holds F l k n r later =
@@ -38,26 +40,30 @@ RevisitsOnly-holds F l k n r later =
 
 module _ (F : Tables) (priority : LocaleFallbackPriority) (l : Locale) where
   -- the next step stays
-  next_stays : (k : ℕ) → (reached F priority l k).locale ≡ unknown → reached F priority l (k + 1) ≡ reached F priority l k
+  next_stays : (k : ℕ) → (reached F priority l k).locale ≡ unknown
+      → reached F priority l (k + 1) ≡ reached F priority l k
   next_stays k e =
       let first = first_script F.likely priority l in
       let r = reached F priority l k in
       reached-suc F priority l k ∙ ap (λ b. cond b r (rules_of priority F first r)) (ap is_unknown e)
 
   -- and so do n more
-  stays_for : (k n : ℕ) → (reached F priority l k).locale ≡ unknown → reached F priority l (n + k) ≡ reached F priority l k
+  stays_for : (k n : ℕ) → (reached F priority l k).locale ≡ unknown
+      → reached F priority l (n + k) ≡ reached F priority l k
   stays_for k zero e = rw zero-add refl
   stays_for k (suc n) e =
       let before = stays_for k n e in
       let more : suc n + k ≡ (n + k) + 1 = omega arith in
       ap (reached F priority l) more ∙ next_stays (n + k) (ap (λ r. r.locale) before ∙ e) ∙ before
 
+  -- so it stays for good
   pub StaysAtUnknown-holds : StaysAtUnknown F priority l
   StaysAtUnknown-holds k n e le =
       let whole : n ≡ (n - k) + k = omega arith in
       ap (reached F priority l) whole ∙ stays_for k (n - k) e
 
 module _ (F : Tables) (l : Locale) where
+  -- in the language priority
   pub StaysUnknown-holds : StaysUnknown F l
   StaysUnknown-holds k n e le =
       let there : (reached F Language l k).locale ≡ unknown = sym (at-reached F l k) ∙ e in
@@ -69,6 +75,7 @@ module _ (F : Tables) (l : Locale) where
       let there = StaysUnknown-holds j (k - 1) e (omega arith) in
       false≢true (sym (ap (λ x. brings_back (rule F x)) there) ∙ r.step)
 
+  -- a repeat leads back behind the unknown locale or comes before it
   pub NeverRepeats-holds : NeverRepeats F l
   NeverRepeats-holds n k e r =
       elim (cases_lt n k) [

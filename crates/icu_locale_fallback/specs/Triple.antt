@@ -33,7 +33,8 @@ triple_cmp a b =
 abbrev pub triple_code : Coded Triple
 triple_code =
     code_by (List ℕ × (Option (List ℕ) × Option (List ℕ)))
-    (coded× (coded_list coded_ℕ) (coded× (coded_option (coded_list coded_ℕ)) (coded_option (coded_list coded_ℕ))))
+    (coded× (coded_list coded_ℕ)
+    (coded× (coded_option (coded_list coded_ℕ)) (coded_option (coded_list coded_ℕ))))
     (λ t. (t.language, (t.script, t.region)))
     (λ p. record { language = p.0; script = p.1.0; region = p.1.1 })
     (λ _. refl)

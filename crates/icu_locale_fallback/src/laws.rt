@@ -1,4 +1,5 @@
-//! Laws of the walk and of the rows, for contracts that cite them. Each function does nothing: its contract is the law.
+//! Laws of the walk and of the rows, for contracts that cite them. Each function does nothing:
+//! its contract is the law.
 ghost use Rattle.std.specs.Prelude.{◌≡◌, ◌≢◌, ℕ, ◌+◌};
 ghost use Rattle.icu_locale_core.specs.Locale.{Locale, unknown};
 ghost use Rattle.icu_locale_fallback.specs.Faults.{AreRowsSound, AreTablesOf, IsFirstFault};
@@ -12,14 +13,16 @@ ghost use Rattle.icu_locale_fallback.specs.declared.rows.TableError.{TableError 
 
 use crate::TableError;
 
-/// Where there are p parent entries, a walk in the language priority is at the unknown locale or comes back to a language,
-/// script and region after at most 4 p + 5 steps; and behind such a return no locale is new.
+/// Where there are p parent entries, a walk in the language priority is at the unknown locale
+/// or comes back to a language, script and region after at most 4 p + 5 steps; and behind such
+/// a return no locale is new.
 pub fn walk_ends_or_repeats()
     ensures ends { (F : Tables) (l : Locale) → EndsOrRepeats F l }
     ensures revisits { (F : Tables) (l : Locale) → RevisitsOnly F l }
 {}
 
-/// A walk that has come to the unknown locale stays there. In the language priority it repeats at no step, before or after.
+/// A walk that has come to the unknown locale stays there. In the language priority it repeats
+/// at no step, before or after.
 pub fn walk_that_ends_never_repeats()
     ensures rests { (F : Tables) (priority : LocaleFallbackPriority) (l : Locale) →
         StaysAtUnknown F priority l }
@@ -50,7 +53,8 @@ pub fn rows_make_one_fallbacker()
     ensures sound { (rows : FallbackRows) (F : Tables) → AreTablesOf rows F → AreRowsSound rows }
 {}
 
-/// Rows have one fault at most, and none where no row is faulty. Want of memory is no fault of the rows.
+/// Rows have one fault at most, and none where no row is faulty. Want of memory is no fault of
+/// the rows.
 pub fn rows_have_one_fault()
     ensures one { (rows : FallbackRows) (error other : Refusal) →
         error ≢ TableError.NoMemory → other ≢ TableError.NoMemory →

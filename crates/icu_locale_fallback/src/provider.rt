@@ -28,8 +28,8 @@ impl Model for Likely {
     ghost inverse = { λ l. record { script = l.script; region = l.region } };
 }
 
-/// The likely subtags: of a language, of a language and a script, of a language and a region (UTS 35, likely
-/// subtags).
+/// The likely subtags: of a language, of a language and a script, of a language and a region
+/// (UTS 35, likely subtags).
 #[derive(Drop)]
 pub struct LikelySubtagsForLanguage {
     language: Table<Likely>,

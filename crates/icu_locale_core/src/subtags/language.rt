@@ -78,6 +78,7 @@ impl fmt::Display for Language {
     }
 }
 
+/// Two or three small letters.
 fn is_language(text: &[u8]) -> bool
     ensures { result ≡ is_language text.now }
 {

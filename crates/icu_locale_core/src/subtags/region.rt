@@ -61,6 +61,7 @@ impl fmt::Display for Region {
     }
 }
 
+/// Two capitals or three digits.
 fn is_region(text: &[u8]) -> bool
     ensures { result ≡ is_region text.now }
 {

@@ -61,6 +61,7 @@ impl fmt::Display for Script {
     }
 }
 
+/// A capital and three small letters.
 fn is_script(text: &[u8]) -> bool
     ensures { result ≡ is_script text.now }
 {

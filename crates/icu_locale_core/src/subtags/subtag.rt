@@ -61,6 +61,7 @@ impl fmt::Display for Subtag {
     }
 }
 
+/// Two to eight small letters or digits.
 fn is_subtag(text: &[u8]) -> bool
     ensures { result ≡ is_subtag text.now }
 {
