@@ -1,7 +1,8 @@
 -- The tests for sameness decide it.
-use Rattle.std.specs.Prelude.{◌≡◌, ℕ, Bool, true, false, ◌&&◌, List, Option, Some, None}
+use Rattle.std.specs.Prelude.{◌≡◌, ℕ, List, Option, Some, None}
 use Rattle.std.specs.Bool.{Decides}
 use Rattle.std.proofs.Common.{refl, ap}
+use Rattle.std.proofs.lemmas.Bool.{and_parts, and_from}
 use Rattle.std.proofs.lemmas.Slice.Eq.{bytes_eq-Decides}
 use Rattle.icu_locale_core.specs.Equality.{same_text, same_subtag, same_locale}
 use Rattle.icu_locale_core.specs.Locale.{Locale}
@@ -18,24 +19,14 @@ same_subtag-Decides (Some s) None = (λ e. cc, λ e. cc)
 same_subtag-Decides (Some s) (Some t) =
     (λ e. ap Some ((same_text-Decides s t).0 e), λ e. (same_text-Decides s t).1 cc)
 
--- where both of two tests hold, each does
-both : (p q : Bool) → (p && q) ≡ true → (p ≡ true) × (q ≡ true)
-both true true e = (refl, refl)
-both true false e = cc
-both false q e = cc
-
--- where each of two tests holds, both do
-joined : (p q : Bool) → p ≡ true → q ≡ true → (p && q) ≡ true
-joined p q e f = rw (e, f) refl
-
 -- of locales
 pub same_locale-Decides : (a b : Locale) → Decides (same_locale a b) (a ≡ b)
 same_locale-Decides a b = (
   λ e.
-      let language = both _ _ e in
-      let script = both _ _ language.1 in
-      let region = both _ _ script.1 in
-      let variant = both _ _ region.1 in
+      let language = and_parts _ _ e in
+      let script = and_parts _ _ language.1 in
+      let region = and_parts _ _ script.1 in
+      let variant = and_parts _ _ region.1 in
       λ i. record {
         language = (same_text-Decides a.language b.language).0 language.0 i;
         script = (same_subtag-Decides a.script b.script).0 script.0 i;
@@ -44,9 +35,9 @@ same_locale-Decides a b = (
         subdivision = (same_subtag-Decides a.subdivision b.subdivision).0 variant.1 i;
       },
   λ e.
-      joined _ _ ((same_text-Decides a.language b.language).1 (ap (λ l. l.language) e))
-      (joined _ _ ((same_subtag-Decides a.script b.script).1 (ap (λ l. l.script) e))
-      (joined _ _ ((same_subtag-Decides a.region b.region).1 (ap (λ l. l.region) e))
-      (joined _ _ ((same_subtag-Decides a.variant b.variant).1 (ap (λ l. l.variant) e))
+      and_from _ _ ((same_text-Decides a.language b.language).1 (ap (λ l. l.language) e))
+      (and_from _ _ ((same_subtag-Decides a.script b.script).1 (ap (λ l. l.script) e))
+      (and_from _ _ ((same_subtag-Decides a.region b.region).1 (ap (λ l. l.region) e))
+      (and_from _ _ ((same_subtag-Decides a.variant b.variant).1 (ap (λ l. l.variant) e))
       ((same_subtag-Decides a.subdivision b.subdivision).1 (ap (λ l. l.subdivision) e))))),
 )

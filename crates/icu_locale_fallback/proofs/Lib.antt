@@ -1,3 +1,4 @@
+pub mod Options
 pub mod TripleOrder
 pub mod Pigeonhole
 pub mod Rules

@@ -1,12 +1,13 @@
 -- What is known of a locale where each rule of the walk applies.
-use Rattle.std.proofs.Common.{◌≡◌, true, false, cond, Option, Some, None, is_some, is_none, refl}
+use Rattle.std.proofs.Common.{◌≡◌, true, false, cond, Option, Some, None, is_some, refl}
 use Rattle.std.specs.FinMap as map
-use Rattle.std.specs.Cmp.{first_so, second_so}
+use Rattle.std.proofs.lemmas.Bool.{and_parts}
 use Rattle.icu_locale_core.specs.Equality.{same_text}
 use Rattle.icu_locale_core.specs.EqualityLaws.{same_text-Decides}
 use Rattle.icu_locale_core.specs.Locale.{Locale, unknown}
 use Rattle.icu_locale_fallback.specs.Triple.{Triple, triple_of}
 use Rattle.icu_locale_fallback.specs.Tables.{Tables}
+use Rattle.icu_locale_fallback.proofs.Options.{none_by_is_none, none_by_is_some}
 use Rattle.icu_locale_fallback.specs.Walk.{Rule, stays, drops_subdivision, drops_variant, to_parent, drops_region, drops_language, rule, parent_or, is_unknown}
 
 -- the same subtags make the same locale
@@ -14,28 +15,19 @@ same_subtags : (a b : Locale) → a.language ≡ b.language → a.script ≡ b.s
     → a.region ≡ b.region → a.variant ≡ b.variant → a.subdivision ≡ b.subdivision → a ≡ b
 same_subtags a b l s r v d i = record { language = l i; script = s i; region = r i; variant = v i; subdivision = d i }
 
--- what is not there is none
-no_value : {A : Type 0} (o : Option A) → is_none o ≡ true → o ≡ None
-no_value None h = refl
-no_value (Some x) h = cc
-
 -- the test for the unknown locale holds of no other
 pub unknown_of : (l : Locale) → is_unknown l ≡ true → l ≡ unknown
 unknown_of l h =
-    let language = first_so (same_text l.language unknown.language) _ h in
-    let h1 = second_so (same_text l.language unknown.language) _ h in
-    let script = first_so (is_none l.script) _ h1 in
-    let h2 = second_so (is_none l.script) _ h1 in
-    let region = first_so (is_none l.region) _ h2 in
-    let h3 = second_so (is_none l.region) _ h2 in
-    let variant = first_so (is_none l.variant) _ h3 in
-    let subdivision = second_so (is_none l.variant) _ h3 in
+    let language = and_parts _ _ h in
+    let script = and_parts _ _ language.1 in
+    let region = and_parts _ _ script.1 in
+    let variant = and_parts _ _ region.1 in
     same_subtags l unknown
-    ((same_text-Decides l.language unknown.language).0 language)
-    (no_value l.script script)
-    (no_value l.region region)
-    (no_value l.variant variant)
-    (no_value l.subdivision subdivision)
+    ((same_text-Decides l.language unknown.language).0 language.0)
+    (none_by_is_none l.script script.0)
+    (none_by_is_none l.region region.0)
+    (none_by_is_none l.variant variant.0)
+    (none_by_is_none l.subdivision variant.1)
 
 -- what is known where the rule r applies to l
 pub data Applies (F : Tables) (l : Locale) : Rule → Type 0 where
@@ -47,11 +39,6 @@ pub data Applies (F : Tables) (l : Locale) : Rule → Type 0 where
   with_region : l.subdivision ≡ None → l.variant ≡ None → is_some l.region ≡ true
       → Applies F l drops_region
   with_language : l.subdivision ≡ None → l.variant ≡ None → Applies F l drops_language
-
--- what is not there is none
-absent : {A : Type 0} (o : Option A) → is_some o ≡ false → o ≡ None
-absent None h = refl
-absent (Some x) h = cc
 
 -- the rule that the walk takes applies
 pub applies : (F : Tables) (l : Locale) → Applies F l (rule F l)
@@ -95,7 +82,7 @@ applies F l =
     behind_subdivision s =
         elim (is_some l.variant) as (λ b. is_some l.variant ≡ b → Applies F l (cond b drops_variant after_variant)) [
           | true ↦ λ e. with_variant s e
-          | false ↦ λ e. behind_variant s (absent l.variant e)
+          | false ↦ λ e. behind_variant s (none_by_is_some l.variant e)
         ] refl
 
     -- where the locale is not the unknown one
@@ -103,5 +90,5 @@ applies F l =
     behind_unknown =
         elim (is_some l.subdivision) as (λ b. is_some l.subdivision ≡ b → Applies F l (cond b drops_subdivision after_subdivision)) [
           | true ↦ λ e. with_subdivision e
-          | false ↦ λ e. behind_subdivision (absent l.subdivision e)
+          | false ↦ λ e. behind_subdivision (none_by_is_some l.subdivision e)
         ] refl

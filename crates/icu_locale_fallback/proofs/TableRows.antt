@@ -9,6 +9,7 @@ use Rattle.std.proofs.lemmas.Slice.Zip.{all_zipped_more}
 use Rattle.writeable_core.specs.declared.text.TextRow.{TextRow}
 use Rattle.icu_locale_fallback.specs.Rows.{Misses, AreDistinct, IsTableOf}
 use Rattle.icu_locale_fallback.specs.Triple.{Triple, triple_cmp}
+use Rattle.icu_locale_fallback.proofs.Options.{none_by_is_some}
 use Rattle.icu_locale_fallback.proofs.TripleOrder.{triple_cmp_total, triple_cmp-IsAntisymmetric, ties_itself, equal_of_tie}
 
 module _ {X : Type 0} where
@@ -40,11 +41,6 @@ module _ {X : Type 0} where
       let other : ¬ (y.0 ≡ e.0) = λ same. false≢true (sym past.0 ∙ ties_itself e.0 y.0 (sym same)) in
       (misses-push es e y.0 h.0 other, distinct-push es e past.1 h.1)
 
-  -- what is not there is none
-  absent : (o : Option X) → is_some o ≡ false → o ≡ None
-  absent None h = refl
-  absent (Some x) h = cc
-
 -- what an insertion answered of a key that is new
 pub is_new : (fresh contained : Bool) → fresh ≡ not contained → fresh ≡ true → contained ≡ false
 is_new fresh true e h = absurd (false≢true (sym e ∙ h))
@@ -69,7 +65,7 @@ module _ {X : Type 0} (key : TextRow → Triple → Type 0) (value : TextRow →
   pub one_more : (rows : List TextRow) (table : finite.FinMap triple_cmp X) (row : TextRow) (k : Triple) (v : X) → IsTableOf key value rows table → key row k → value row v → finite.contains_key table k ≡ false → IsTableOf key value (rows ++ row ∷ []) (finite.insert table k v)
   one_more rows table row k v h key_is value_is fresh =
       let none : find k h.entries ≡ None =
-      absent (find k h.entries)
+      none_by_is_some (find k h.entries)
       (ap is_some (sym (finite.get-from_entries triple_cmp_total h.entries k) ∙ ap (λ t. finite.get t k) (sym h.table_is)) ∙ fresh) in
       let longer : finite.len (finite.insert table k v) ≡ finite.len table + 1 =
       finite.len-insert triple_cmp_total table k v ∙ ap (λ b. cond b (finite.len table) (finite.len table + 1)) fresh in
