@@ -1,8 +1,7 @@
 -- What is known of a locale where each rule of the walk applies.
-use Rattle.std.proofs.Common.{◌≡◌, true, false, cond, Option, Some, None, is_some, refl}
+use Rattle.std.proofs.Common.{◌≡◌, true, false, cond, Some, None, is_some, refl}
 use Rattle.std.specs.FinMap as map
 use Rattle.std.proofs.lemmas.Bool.{and_parts}
-use Rattle.icu_locale_core.specs.Equality.{same_text}
 use Rattle.icu_locale_core.specs.EqualityLaws.{same_text-Decides}
 use Rattle.icu_locale_core.specs.Locale.{Locale, unknown}
 use Rattle.icu_locale_fallback.specs.Triple.{Triple, triple_of}

@@ -1,12 +1,12 @@
 -- The laws of the walk that the crate promises.
-use Rattle.std.proofs.Common.{◌≡◌, ℕ, zero, suc, ◌+◌, ◌-◌, ◌<◌, None, true, false, cond, refl, sym, ap, ◌∙◌, subst, inl, inr, arith, zero-add, suc-add}
+use Rattle.std.proofs.Common.{◌≡◌, ℕ, zero, suc, ◌+◌, ◌-◌, ◌<◌, None, cond, refl, sym, ap, ◌∙◌, inl, inr, arith, zero-add}
 use Rattle.std.proofs.lemmas.Bool.{false≢true, cases_lt}
 use Rattle.icu_locale_core.specs.Locale.{Locale, unknown}
 use Rattle.icu_locale_fallback.specs.declared.config.LocaleFallbackPriority.{LocaleFallbackPriority}
 use Rattle.icu_locale_fallback.specs.declared.config.LocaleFallbackPriority.TheVariants.{Language}
 use Rattle.icu_locale_fallback.specs.Tables.{Tables}
 use Rattle.icu_locale_fallback.specs.Normal.{normal, first_script}
-use Rattle.icu_locale_fallback.specs.Steps.{StaysAtUnknown, reached, rules_of, step_of}
+use Rattle.icu_locale_fallback.specs.Steps.{StaysAtUnknown, reached, rules_of}
 use Rattle.icu_locale_fallback.specs.Walk.{Point, at, brings_back, is_unknown, rule, EndsOrRepeats, NeverRepeats, Repeats, RevisitsOnly, StaysUnknown}
 use Rattle.icu_locale_fallback.proofs.Ends.{ends_or_repeats}
 use Rattle.icu_locale_fallback.proofs.NextStep.{at-reached, reached-suc}
