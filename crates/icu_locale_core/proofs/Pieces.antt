@@ -1,54 +1,32 @@
 -- A text in pieces: how it compares, and that each piece of an ASCII text is ASCII.
-use Rattle.std.proofs.Common.{◌≡◌, ℕ, ◌+◌, ◌<◌, ◌≤◌, min, List, [], ◌∷◌, ◌++◌, Bor, Equal, Less, Greater, Ordering, map, length, get_or, take, drop, refl, sym, ap, subst, ◌∙◌, arith, take-append-drop, length-take}
+use Rattle.std.proofs.Common.{◌≡◌, ℕ, ◌+◌, ◌<◌, min, List, [], ◌∷◌, ◌++◌, Bor, Equal, Ordering, map, length, get_or, take, drop, refl, sym, ap, subst, ◌∙◌, take-append-drop}
 use Rattle.std.specs.Cmp.Lexicographic.{slice_cmp}
 use Rattle.std.specs.List.{concat}
 use Rattle.std.specs.Ordering.{nat_cmp, ordering_then}
 use Rattle.std.specs.Str.{IsAscii, chars}
 use Rattle.std.proofs.lemmas.Str.{chars-IsAscii, IsAscii-drop, IsAscii-take}
-use Rattle.std.proofs.lemmas.List.{append-nil, drop_at, drop_all, drop_more, map-append, take_at, take_more}
+use Rattle.writeable_core.specs.OrderingLaws.{slice_cmp-cut, then-decided}
+use Rattle.std.proofs.lemmas.List.{append-nil, drop_at, drop_more, map-append, take_at, take_more}
 use Rattle.std.proofs.lemmas.List.Folds.{concat-append}
-
-then_assoc : (o p q : Ordering) → ordering_then o (ordering_then p q) ≡ ordering_then (ordering_then o p) q
-then_assoc Less p q = refl
-then_assoc Equal p q = refl
-then_assoc Greater p q = refl
-
--- a comparison that is decided stays so
-then_decided : (o p : Ordering) → (o ≡ Equal → ⊥) → ordering_then o p ≡ o
-then_decided Less p other = refl
-then_decided Equal p other = absurd (other refl)
-then_decided Greater p other = refl
-
--- the first piece of a text compares with as much of the other text, and the rest with the rest
-cmp-append : (p ps f d : List ℕ) → length f ≤ length p → (length f < length p → d ≡ [])
-    → slice_cmp nat_cmp (p ++ ps) (f ++ d) ≡ ordering_then (slice_cmp nat_cmp p f) (slice_cmp nat_cmp ps d)
-cmp-append [] ps [] d le over = refl
-cmp-append [] ps (y ∷ f) d le over = absurd (omega arith)
-cmp-append (x ∷ p) ps [] d le over = rw (over (omega arith)) refl
-cmp-append (x ∷ p) ps (y ∷ f) d le over =
-    ap (ordering_then (nat_cmp x y)) (cmp-append p ps f d (omega arith) (λ lt. over (omega (arith, lt))))
-    ∙ then_assoc (nat_cmp x y) (slice_cmp nat_cmp p f) (slice_cmp nat_cmp ps d)
 
 -- what is left of a text in pieces
 abbrev pub text_from : List (Bor (List ℕ)) → ℕ → List ℕ
 text_from pieces i = concat (map (λ piece. piece.now) (drop i pieces))
 
 module _ (pieces : List (Bor (List ℕ))) (i : ℕ) (d : Bor (List ℕ)) where
-  cmp-piece : (n : ℕ) (rest piece front back : List ℕ) → i < length pieces → piece ≡ (get_or pieces i d).now
+  -- the piece at i compares with the front of the rest, and what follows with what is behind
+  cmp-piece : (n : ℕ) (rest piece front back : List ℕ) → i < length pieces
+      → piece ≡ (get_or pieces i d).now
       → n ≡ min (length (get_or pieces i d).now) (length rest) → front ≡ take n rest → back ≡ drop n rest
       → slice_cmp nat_cmp (text_from pieces i) rest
       ≡ ordering_then (slice_cmp nat_cmp piece front) (slice_cmp nat_cmp (text_from pieces (i + 1)) back)
   cmp-piece n rest piece front back lt read is ahead behind =
-      let short : length front ≤ length piece = omega (arith, ap length read, ap length ahead, length-take n rest, is) in
-      let past : length front < length piece → back ≡ [] =
-      λ less. behind ∙ drop_all n rest (omega (arith, less, ap length read, ap length ahead, length-take n rest, is)) in
-      let halves : rest ≡ front ++ back = cc (take-append-drop n rest) in
       ap (λ l. slice_cmp nat_cmp (concat (map (λ p. p.now) l)) rest) (drop_more pieces i d lt)
-      ∙ ap (λ l. slice_cmp nat_cmp (l ++ text_from pieces (i + 1)) rest) (sym read)
-      ∙ ap (slice_cmp nat_cmp (piece ++ text_from pieces (i + 1))) halves
-      ∙ cmp-append piece (text_from pieces (i + 1)) front back short past
+      ∙ rw (read, ahead, behind) (slice_cmp-cut n (get_or pieces i d).now rest (text_from pieces (i + 1)) is)
 
-  pub cmp-equal_piece : (n : ℕ) (rest piece front back : List ℕ) → i < length pieces → piece ≡ (get_or pieces i d).now
+  -- a piece that compares equal leaves the answer to what follows
+  pub cmp-equal_piece : (n : ℕ) (rest piece front back : List ℕ) → i < length pieces
+      → piece ≡ (get_or pieces i d).now
       → n ≡ min (length (get_or pieces i d).now) (length rest) → front ≡ take n rest → back ≡ drop n rest
       → Equal ≡ slice_cmp nat_cmp piece front
       → slice_cmp nat_cmp (text_from pieces i) rest ≡ slice_cmp nat_cmp (text_from pieces (i + 1)) back
@@ -56,6 +34,7 @@ module _ (pieces : List (Bor (List ℕ))) (i : ℕ) (d : Bor (List ℕ)) where
       cmp-piece n rest piece front back lt read is ahead behind
       ∙ ap (λ o. ordering_then o (slice_cmp nat_cmp (text_from pieces (i + 1)) back)) (sym equal)
 
+  -- a piece that does not compare equal is the answer
   pub cmp-other_piece : (n : ℕ) (rest piece front back : List ℕ) (o : Ordering) → i < length pieces
       → piece ≡ (get_or pieces i d).now → n ≡ min (length (get_or pieces i d).now) (length rest)
       → front ≡ take n rest → back ≡ drop n rest → o ≡ slice_cmp nat_cmp piece front → (o ≡ Equal → ⊥)
@@ -63,7 +42,7 @@ module _ (pieces : List (Bor (List ℕ))) (i : ℕ) (d : Bor (List ℕ)) where
   cmp-other_piece n rest piece front back o lt read is ahead behind decides other =
       cmp-piece n rest piece front back lt read is ahead behind
       ∙ ap (λ p. ordering_then p (slice_cmp nat_cmp (text_from pieces (i + 1)) back)) (sym decides)
-      ∙ then_decided o (slice_cmp nat_cmp (text_from pieces (i + 1)) back) other
+      ∙ then-decided o (slice_cmp nat_cmp (text_from pieces (i + 1)) back) other
 
   -- one more piece
   pub concat-take-more : (piece : List ℕ) → i < length pieces → piece ≡ (get_or pieces i d).now
@@ -74,10 +53,12 @@ module _ (pieces : List (Bor (List ℕ))) (i : ℕ) (d : Bor (List ℕ)) where
       ∙ concat-append (map (λ p. p.now) (take i pieces)) ((get_or pieces i d).now ∷ [])
       ∙ ap (λ l. concat (map (λ p. p.now) (take i pieces)) ++ l) (append-nil (get_or pieces i d).now ∙ sym read))
 
+-- each of two texts that are ASCII together is ASCII
 IsAscii-behind : (a b : List ℕ) → IsAscii (a ++ b) → IsAscii b
 IsAscii-behind a b h =
     subst IsAscii (drop_at a b (length a) refl) (IsAscii-drop (a ++ b) (length a) h)
 
+-- and so is the one in front
 IsAscii-front : (a b : List ℕ) → IsAscii (a ++ b) → IsAscii a
 IsAscii-front a b h =
     subst IsAscii (take_at a b (length a) refl) (IsAscii-take (a ++ b) (length a) h)
@@ -105,13 +86,14 @@ module _ (pieces : List (Bor (List ℕ))) (text : List ℕ) (is : concat (map (�
         (IsAscii-behind (concat (map (λ p. p.now) (take i pieces))) (get_or pieces i d).now
         (rw (concat-take-more pieces i d (get_or pieces i d).now lt refl) (IsAscii-first (i + 1))))
 
-    -- the first pieces and the characters of one more, and with what is left
+    -- the first pieces and the characters of one more
     pub pieces-more : concat (map (λ p. p.now) (take i pieces)) ++ chars (get_or pieces i d).now
         ≡ concat (map (λ p. p.now) (take (i + 1) pieces))
     pieces-more =
         ap (λ l. concat (map (λ p. p.now) (take i pieces)) ++ l) chars-piece
         ∙ concat-take-more pieces i d (get_or pieces i d).now lt refl
 
+    -- the first pieces, the characters of one more, and what is left are the text
     pub pieces-parts : (concat (map (λ p. p.now) (take i pieces)) ++ chars (get_or pieces i d).now) ++ text_from pieces (i + 1)
         ≡ text
     pieces-parts = ap (λ l. l ++ text_from pieces (i + 1)) pieces-more ∙ concat-halves pieces (i + 1) ∙ is

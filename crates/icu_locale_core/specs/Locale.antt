@@ -1,4 +1,5 @@
--- The locale that data is looked up by, and its printed text (UTS 35, Part 1, sections 3.2 and 3.6.5; RFC 5646, section 2.1).
+-- The locale that data is looked up by, and its printed text (UTS 35, Unicode locale
+-- identifiers; RFC 5646, section 2.1).
 use Rattle.std.specs.Prelude.{◌≡◌, ℕ, List, [], ◌++◌, Option, Some, None, IfSome, codes}
 use Rattle.icu_locale_core.specs.Shapes.{IsLanguage, IsScript, IsRegion, IsVariant, IsSubtag}
 
@@ -13,14 +14,21 @@ pub record Locale : Type 0 where
 -- `und` and nothing else: the locale of which nothing is known
 abbrev pub unknown : Locale
 unknown =
-    record { language = codes "und"; script = None; region = None; variant = None; subdivision = None }
+    record {
+      language = codes "und";
+      script = None;
+      region = None;
+      variant = None;
+      subdivision = None;
+    }
 
 -- a subtag, where there is one, behind `mark`
 abbrev pub marked : List ℕ → Option (List ℕ) → List ℕ
 marked mark None = []
 marked mark (Some subtag) = mark ++ subtag
 
--- the printed text: the language, `-` and each of script, region and variant, then `-u-sd-` and the subdivision
+-- the printed text: the language, `-` and each of script, region and variant, then `-u-sd-` and
+-- the subdivision
 abbrev pub print : Locale → List ℕ
 print locale =
     locale.language ++ marked (codes "-") locale.script ++ marked (codes "-") locale.region
@@ -41,4 +49,5 @@ IsPrinted text = (locale : Locale) × IsLocale locale × (print locale ≡ text)
 
 -- the printed text determines the locale
 abbrev pub PrintDetermines : Type 0
-PrintDetermines = (one other : Locale) → IsLocale one → IsLocale other → print one ≡ print other → one ≡ other
+PrintDetermines =
+    (one other : Locale) → IsLocale one → IsLocale other → print one ≡ print other → one ≡ other

@@ -1,5 +1,5 @@
--- The shapes of subtags in canonical case: UTS 35, Part 1, section 3.2, and RFC 5646, section 2.1; on case, RFC 5646,
--- section 2.1.1.
+-- The shapes of subtags in canonical case: UTS 35, Unicode locale identifiers, and RFC 5646,
+-- section 2.1; on case, RFC 5646, section 2.1.1.
 use Rattle.std.specs.Prelude.{ℕ, Bool, ◌&&◌, ◌||◌, ◌==◌, List, length, drop, slice_index, IsTrue}
 use Rattle.std.specs.Char.{is_ascii_digit, is_ascii_lowercase, is_ascii_uppercase}
 use Rattle.std.specs.Int.{is_in_range}
@@ -9,14 +9,17 @@ use Rattle.std.specs.List.{list_all}
 abbrev pub is_language : List ℕ → Bool
 is_language text = is_in_range 2 3 (length text) && list_all is_ascii_lowercase text
 
+-- as a fact
 abbrev pub IsLanguage : List ℕ → Type 0
 IsLanguage text = IsTrue (is_language text)
 
 -- unicode_script_subtag: four letters, of which the first is a capital
 abbrev pub is_script : List ℕ → Bool
 is_script text =
-    length text == 4 && (is_ascii_uppercase (slice_index text 0) && list_all is_ascii_lowercase (drop 1 text))
+    length text == 4
+    && (is_ascii_uppercase (slice_index text 0) && list_all is_ascii_lowercase (drop 1 text))
 
+-- as a fact
 abbrev pub IsScript : List ℕ → Type 0
 IsScript text = IsTrue (is_script text)
 
@@ -26,6 +29,7 @@ is_region text =
     (length text == 2 && list_all is_ascii_uppercase text)
     || (length text == 3 && list_all is_ascii_digit text)
 
+-- as a fact
 abbrev pub IsRegion : List ℕ → Type 0
 IsRegion text = IsTrue (is_region text)
 
@@ -39,12 +43,14 @@ is_variant text =
     (is_in_range 5 8 (length text) || (length text == 4 && is_ascii_digit (slice_index text 0)))
     && list_all is_small text
 
+-- as a fact
 abbrev pub IsVariant : List ℕ → Type 0
 IsVariant text = IsTrue (is_variant text)
 
--- two to eight letters or digits, as the value of the key `sd` is (section 3.6.5)
+-- two to eight letters or digits, as the value of the key `sd` is (UTS 35, subdivision codes)
 abbrev pub is_subtag : List ℕ → Bool
 is_subtag text = is_in_range 2 8 (length text) && list_all is_small text
 
+-- as a fact
 abbrev pub IsSubtag : List ℕ → Type 0
 IsSubtag text = IsTrue (is_subtag text)

@@ -1,4 +1,5 @@
-//! Subtags in canonical case (UTS 35, Part 1, section 3.2), each compared, ordered and hashed as its text.
+//! Subtags in canonical case (UTS 35, Unicode locale identifiers), each compared, ordered and
+//! hashed as its text.
 
 mod characters;
 mod language;

@@ -1,6 +1,7 @@
--- The walk ends or repeats after at most 4 p + 5 steps, where p is the number of parent entries.
--- Up to the first repeat the parent steps leave distinct keys, so there are at most p; between two region steps stands a parent
--- step, so there are at most p + 1; and only these steps bring a variant back.
+-- The walk ends or repeats after at most 4 p + 5 steps, where p is the number of parent
+-- entries. Up to the first repeat the parent steps leave distinct keys, so there are at most p;
+-- between two region steps stands a parent step, so there are at most p + 1; and only these
+-- steps bring a variant back.
 use Rattle.std.proofs.Common.{◌≡◌, ◌≢◌, ℕ, zero, suc, ◌+◌, ◌-◌, ◌*◌, ◌<◌, ◌≤◌, true, cond, List, [], ◌∷◌, length, Option, Some, None, is_some, refl, sym, ap, ◌∙◌, subst, ◌⊎◌, inl, inr, arith, below_more}
 use Rattle.std.proofs.Math.Numerals.{sub-one}
 use Rattle.std.specs.FinMap as map
@@ -17,6 +18,7 @@ use Rattle.icu_locale_fallback.proofs.Rules.{Applies, at_unknown, with_subdivisi
 abbrev has : Option (List ℕ) → ℕ
 has o = cond (is_some o) 1 0
 
+-- which is at most 1
 has_le : (o : Option (List ℕ)) → has o ≤ 1
 has_le None = omega arith
 has_le (Some x) = omega arith
@@ -26,7 +28,8 @@ abbrev spare : Locale → ℕ
 spare l = has l.subdivision + has l.variant
 
 -- t is f i for some i below k, or for none
-pub earlier_or_none : (f : ℕ → Triple) (t : Triple) (k : ℕ) → ((i : ℕ) × (i < k) × (t ≡ f i)) ⊎ ((i : ℕ) → i < k → t ≢ f i)
+pub earlier_or_none : (f : ℕ → Triple) (t : Triple) (k : ℕ)
+    → ((i : ℕ) × (i < k) × (t ≡ f i)) ⊎ ((i : ℕ) → i < k → t ≢ f i)
 earlier_or_none f t zero = inr (λ i h. absurd (omega arith))
 earlier_or_none f t (suc k) =
     elim (earlier_or_none f t k) [
@@ -38,9 +41,11 @@ earlier_or_none f t (suc k) =
     ]
 
 module _ (F : Tables) (first : Option (List ℕ)) (from : Point) where
+  -- the walk
   abbrev point : ℕ → Point
   point k = walk F first from k
 
+  -- and the triples of its locales
   abbrev triple : ℕ → Triple
   triple k = triple_of (point k).locale
 
@@ -57,7 +62,8 @@ module _ (F : Tables) (first : Option (List ℕ)) (from : Point) where
   AreEarlier k [] = Unit {0}
   AreEarlier k (x ∷ xs) = ((i : ℕ) × (i < k) × (triple i ≡ x)) × AreEarlier k xs
 
-  -- a walk of k steps that has neither ended nor repeated: the keys that its parent steps left, and its region steps
+  -- a walk of k steps that has neither ended nor repeated: the keys that its parent steps left,
+  -- and its region steps
   record Run (k : ℕ) : Type 0 where
     keys : List Triple
     regions : ℕ
@@ -73,7 +79,8 @@ module _ (F : Tables) (first : Option (List ℕ)) (from : Point) where
   later k (x ∷ xs) ((i, below, is), rest) = ((i, omega arith, is), later k xs rest)
 
   -- a triple that is new is none that was left
-  misses_earlier : (k : ℕ) (t : Triple) → ((i : ℕ) → i < k → t ≢ triple i) → (xs : List Triple) → AreEarlier k xs → Misses xs t
+  misses_earlier : (k : ℕ) (t : Triple) → ((i : ℕ) → i < k → t ≢ triple i) → (xs : List Triple)
+      → AreEarlier k xs → Misses xs t
   misses_earlier k t new [] h = tt
   misses_earlier k t new (x ∷ xs) ((i, below, is), rest) =
       (λ e. new i below (e ∙ sym is), misses_earlier k t new xs rest)
@@ -82,11 +89,14 @@ module _ (F : Tables) (first : Option (List ℕ)) (from : Point) where
   abbrev behind : ℕ → Rule → Point
   behind k r = step_by r F first (point k).locale (point k).kept
 
+  -- one step on
   point-suc : (k : ℕ) → point (suc k) ≡ behind k (rule F (point k).locale)
   unfolding walk
   point-suc k = refl
 
-  advance : (k : ℕ) (r : Rule) → rule F (point k).locale ≡ r → Applies F (point k).locale r → point (suc k) ≡ behind k r → Run k → Stopped (suc k) ⊎ Run (suc k)
+  -- a step goes on with the run, or ends or repeats
+  advance : (k : ℕ) (r : Rule) → rule F (point k).locale ≡ r → Applies F (point k).locale r
+      → point (suc k) ≡ behind k r → Run k → Stopped (suc k) ⊎ Run (suc k)
   advance k r is (at_unknown e) to run = inl (k, omega arith, inl e)
   advance k r is (with_subdivision s) to run =
       let same : triple (suc k) ≡ triple k = ap (λ p. triple_of p.locale) to in
@@ -167,9 +177,11 @@ module _ (F : Tables) (first : Option (List ℕ)) (from : Point) where
       ]
   advance k r is (with_language s v) to run = inl (suc k, omega arith, inl (ap (λ p. p.locale) to))
 
+  -- a walk that has stopped has stopped a step later
   longer : (k : ℕ) → Stopped k → Stopped (suc k)
   longer k (j, below, stop) = (j, omega arith, stop)
 
+  -- so at each step the walk has stopped or runs
   run_from : (k : ℕ) → Stopped k ⊎ Run k
   run_from zero =
       let subdivision = has_le (point zero).locale.subdivision in
@@ -191,6 +203,7 @@ module _ (F : Tables) (first : Option (List ℕ)) (from : Point) where
         | inr run ↦ advance k (rule F (point k).locale) refl (applies F (point k).locale) (point-suc k) run
       ]
 
+  -- a run is too short for so many steps
   pub ends_or_repeats : Stopped (4 * map.len F.parents + 5)
   ends_or_repeats =
       elim (run_from (4 * map.len F.parents + 5)) [

@@ -1,3 +1,4 @@
+pub mod Options
 pub mod TripleOrder
 pub mod Pigeonhole
 pub mod Rules
@@ -11,3 +12,4 @@ pub mod Lowercase
 pub mod Cells
 pub mod TableRows
 pub mod RowLaws
+pub mod OneFault

@@ -5,10 +5,14 @@ use Rattle.std.specs.List.{starts_with}
 use Rattle.std.proofs.Common.{eq-eqb}
 use Rattle.std.proofs.lemmas.Bool.Decides.{nat_tests}
 
+-- the text begins with the front in lower case
 abbrev begins : List ℕ → List ℕ → Bool
 begins text front = starts_with nat_eq text (map to_ascii_lowercase front)
 
-pub begins-all : (front text : List ℕ) → length front ≤ length text → ((k : ℕ) → k < length front → to_ascii_lowercase (get_or front k 0) ≡ get_or text k 0) → begins text front ≡ true
+-- where each place agrees
+pub begins-all : (front text : List ℕ) → length front ≤ length text
+    → ((k : ℕ) → k < length front → to_ascii_lowercase (get_or front k 0) ≡ get_or text k 0)
+    → begins text front ≡ true
 begins-all [] text long same = refl
 begins-all (x ∷ xs) [] long same = absurd (omega arith)
 begins-all (x ∷ xs) (y ∷ ys) long same =
@@ -16,7 +20,9 @@ begins-all (x ∷ xs) (y ∷ ys) long same =
     let rest = begins-all xs ys (omega arith) (λ k h. same (suc k) (omega arith)) in
     ap (λ b. b && begins ys xs) (eq-eqb (to_ascii_lowercase x) y first) ∙ rest
 
-pub begins-other : (front text : List ℕ) (k : ℕ) → k < length front → length front ≤ length text → to_ascii_lowercase (get_or front k 0) ≢ get_or text k 0 → begins text front ≡ false
+-- not where some place differs
+pub begins-other : (front text : List ℕ) (k : ℕ) → k < length front → length front ≤ length text
+    → to_ascii_lowercase (get_or front k 0) ≢ get_or text k 0 → begins text front ≡ false
 begins-other [] text k h long other = absurd (omega arith)
 begins-other (x ∷ xs) [] k h long other = absurd (omega arith)
 begins-other (x ∷ xs) (y ∷ ys) zero h long other = grind (arith, nat_tests)
@@ -24,6 +30,7 @@ begins-other (x ∷ xs) (y ∷ ys) (suc k) h long other =
     let rest = begins-other xs ys k (omega arith) (omega arith) other in
     grind arith
 
+-- nor where the text is shorter
 pub begins-short : (front text : List ℕ) → length text < length front → begins text front ≡ false
 begins-short [] text h = absurd (omega arith)
 begins-short (x ∷ xs) [] h = refl

@@ -13,7 +13,8 @@ module _ {X : Type 0} where
   AreKeys table (x ∷ xs) = IsSome (map.get table x) × AreKeys table xs
 
   -- a table with a key has an entry
-  some_entry : (table : map.FinMap triple_cmp X) (x : Triple) → IsSome (map.get table x) → 0 < map.len table
+  some_entry : (table : map.FinMap triple_cmp X) (x : Triple) → IsSome (map.get table x)
+      → 0 < map.len table
   some_entry table x h =
       elim (map.len table) as (λ n. map.len table ≡ n → 0 < n) [
         | zero ↦ λ e. let none : map.get table x ≡ None = ap (λ t. map.get t x) (map.empty_of_len table e) ∙ map.get-empty triple_cmp x in
@@ -21,7 +22,9 @@ module _ {X : Type 0} where
         | suc n ↦ λ e. omega arith
       ] refl
 
-  one_less : (table : map.FinMap triple_cmp X) (x : Triple) → IsSome (map.get table x) → map.len (map.remove table x) + 1 ≡ map.len table
+  -- without it the table has one entry less
+  one_less : (table : map.FinMap triple_cmp X) (x : Triple) → IsSome (map.get table x)
+      → map.len (map.remove table x) + 1 ≡ map.len table
   one_less table x h =
       let there = some_entry table x h in
       let left : map.len (map.remove table x) ≡ map.len table - 1 =
@@ -29,7 +32,8 @@ module _ {X : Type 0} where
       omega arith
 
   -- a key stays where another one is taken out
-  keys_stay : (table : map.FinMap triple_cmp X) (x : Triple) (xs : List Triple) → Misses xs x → AreKeys table xs → AreKeys (map.remove table x) xs
+  keys_stay : (table : map.FinMap triple_cmp X) (x : Triple) (xs : List Triple) → Misses xs x
+      → AreKeys table xs → AreKeys (map.remove table x) xs
   keys_stay table x [] m h = tt
   keys_stay table x (y ∷ ys) m h =
       let apart : eq_by_cmp triple_cmp y x ≡ false = other_tie y x (λ e. m.0 (sym e)) in
@@ -37,7 +41,9 @@ module _ {X : Type 0} where
       map.get-remove triple_cmp_total table x y ∙ ap (λ b. cond b None (map.get table y)) apart in
       (ap is_some same ∙ h.0, keys_stay table x ys m.1 h.1)
 
-  pub no_longer : (table : map.FinMap triple_cmp X) (xs : List Triple) → AreDistinct xs → AreKeys table xs → length xs ≤ map.len table
+  -- one key after another is taken out
+  pub no_longer : (table : map.FinMap triple_cmp X) (xs : List Triple) → AreDistinct xs
+      → AreKeys table xs → length xs ≤ map.len table
   no_longer table [] d h = omega arith
   no_longer table (x ∷ xs) d h =
       let less = one_less table x h.0 in

@@ -8,6 +8,7 @@ use Rattle.icu_locale_fallback.specs.Tables.{Tables}
 use Rattle.icu_locale_fallback.specs.Steps.{Reached, step_of, has_language, start, reached, region_at}
 use Rattle.icu_locale_fallback.proofs.Rules.{unknown_of}
 
+-- 1 where the test holds, else 0
 abbrev count : Bool → ℕ
 count b = cond b 1 0
 
@@ -19,15 +20,20 @@ rank r =
     (1 + cond (is_some r.locale.region)
     (count (is_some r.locale.subdivision || is_some r.kept_subdivision) + count (is_some r.locale.variant || is_some r.kept_variant)) 0) 0
 
-falls : (F : Tables) (first : Option (List ℕ)) (r : Reached) → rank (step_of Region F first r) ≤ rank r - 1
+-- each step takes one off
+falls : (F : Tables) (first : Option (List ℕ)) (r : Reached)
+    → rank (step_of Region F first r) ≤ rank r - 1
 falls F first r = grind arith
 
+-- where there is none the locale is unknown
 no_steps : (r : Reached) → rank r ≡ 0 → is_unknown r.locale ≡ true
 no_steps r h = grind arith
 
+-- a walk begins with six at most
 at_most_six : (F : Tables) (l : Locale) → rank (start F Region l) ≤ 6
 at_most_six F l = grind arith
 
+-- after k steps so many are left
 left : (F : Tables) (l : Locale) (k : ℕ) → rank (reached F Region l k) ≤ 6 - k
 unfolding reached
 left F l zero = at_most_six F l
@@ -36,6 +42,7 @@ left F l (suc k) =
     let less = falls F (first_script F.likely Region l) (reached F Region l k) in
     omega arith
 
+-- after six none
 pub region_ends : (F : Tables) (l : Locale) → region_at F l 6 ≡ unknown
 region_ends F l =
     let none = left F l 6 in

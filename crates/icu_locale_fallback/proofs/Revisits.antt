@@ -1,5 +1,6 @@
--- Where the walk repeats, nothing new comes. A parent or region step leaves a point that its triple determines: the variant of
--- the start is back, and nothing is kept. So such a step to a triple that was there before leads to a point that was there before.
+-- Where the walk repeats, nothing new comes. A parent or region step leaves a point that its
+-- triple determines: the variant of the start is back, and nothing is kept. So such a step to a
+-- triple that was there before leads to a point that was there before.
 use Rattle.std.proofs.Common.{◌≡◌, ℕ, zero, suc, ◌+◌, ◌-◌, ◌<◌, ◌≤◌, true, false, List, Option, None, is_some, refl, sym, ap, ◌∙◌, subst, ◌⊎◌, inl, inr, arith}
 use Rattle.std.proofs.Math.Numerals.{sub-one}
 use Rattle.std.proofs.Common.{zero-add, suc-add}
@@ -24,7 +25,10 @@ abbrev Carries : Option (List ℕ) → Point → Type 0
 Carries variant p =
     ((p.locale.variant ≡ variant) × (p.kept ≡ None)) ⊎ ((p.locale.variant ≡ None) × (p.kept ≡ variant))
 
-same_point : (p q : Point) → triple_of p.locale ≡ triple_of q.locale → p.locale.variant ≡ q.locale.variant → p.locale.subdivision ≡ q.locale.subdivision → p.kept ≡ q.kept → p ≡ q
+-- the same parts make the same point
+same_point : (p q : Point) → triple_of p.locale ≡ triple_of q.locale
+    → p.locale.variant ≡ q.locale.variant → p.locale.subdivision ≡ q.locale.subdivision
+    → p.kept ≡ q.kept → p ≡ q
 same_point p q t v d k i =
     record {
       locale = record { language = (t i).language; script = (t i).script; region = (t i).region; variant = v i; subdivision = d i };
@@ -32,29 +36,37 @@ same_point p q t v d k i =
     }
 
 -- where no variant is in place, the one that is kept is that of the start
-kept_is : (variant : Option (List ℕ)) (p : Point) → p.locale.variant ≡ None → Carries variant p → p.kept ≡ variant
+kept_is : (variant : Option (List ℕ)) (p : Point) → p.locale.variant ≡ None → Carries variant p
+    → p.kept ≡ variant
 kept_is variant p none (inl (here, empty)) = empty ∙ sym none ∙ here
 kept_is variant p none (inr (gone, kept)) = kept
 
 module _ (F : Tables) (first : Option (List ℕ)) (l : Locale) where
+  -- the walk
   abbrev point : ℕ → Point
   point k = walk F first (record { locale = l; kept = None }) k
 
+  -- the triples of its locales
   abbrev triple : ℕ → Triple
   triple k = triple_of (point k).locale
 
+  -- the point behind one where the rule r applies
   abbrev behind : ℕ → Rule → Point
   behind k r = step_by r F first (point k).locale (point k).kept
 
+  -- no step
   point-zero : point zero ≡ record { locale = l; kept = None }
   unfolding walk
   point-zero = refl
 
+  -- one step on
   point-suc : (k : ℕ) → point (suc k) ≡ behind k (rule F (point k).locale)
   unfolding walk
   point-suc k = refl
 
-  carries_on : (k : ℕ) (r : Rule) → Applies F (point k).locale r → point (suc k) ≡ behind k r → Carries l.variant (point k) → Carries l.variant (point (suc k))
+  -- each step carries the variant on
+  carries_on : (k : ℕ) (r : Rule) → Applies F (point k).locale r → point (suc k) ≡ behind k r
+      → Carries l.variant (point k) → Carries l.variant (point (suc k))
   carries_on k r (at_unknown e) to h = subst (Carries l.variant) (sym to) h
   carries_on k r (with_subdivision s) to h = subst (Carries l.variant) (sym to) h
   carries_on k r (with_variant s v) to (inl (here, empty)) = inr (ap (λ p. p.locale.variant) to, ap (λ p. p.kept) to ∙ here)
@@ -66,12 +78,14 @@ module _ (F : Tables) (first : Option (List ℕ)) (l : Locale) where
   carries_on k r (with_language s v) to h =
       inr (ap (λ p. p.locale.variant) to, ap (λ p. p.kept) to ∙ kept_is l.variant (point k) v h)
 
+  -- so it is there or kept at each point
   carries : (k : ℕ) → Carries l.variant (point k)
   carries zero = inl (ap (λ p. p.locale.variant) point-zero, ap (λ p. p.kept) point-zero)
   carries (suc k) = carries_on k (rule F (point k).locale) (applies F (point k).locale) (point-suc k) (carries k)
 
   -- a parent or region step arrives
-  arrives_by : (k : ℕ) (r : Rule) → Applies F (point k).locale r → point (suc k) ≡ behind k r → brings_back r ≡ true → point (suc k) ≡ arrival (triple (suc k)) l.variant
+  arrives_by : (k : ℕ) (r : Rule) → Applies F (point k).locale r → point (suc k) ≡ behind k r
+      → brings_back r ≡ true → point (suc k) ≡ arrival (triple (suc k)) l.variant
   arrives_by k r (at_unknown e) to h = cc
   arrives_by k r (with_subdivision s) to h = cc
   arrives_by k r (with_variant s v) to h = cc
@@ -87,7 +101,9 @@ module _ (F : Tables) (first : Option (List ℕ)) (l : Locale) where
       (ap (λ p. p.kept) to)
   arrives_by k r (with_language s v) to h = cc
 
-  arrives : (k : ℕ) → brings_back (rule F (point k).locale) ≡ true → point (suc k) ≡ arrival (triple (suc k)) l.variant
+  -- whatever the rule
+  arrives : (k : ℕ) → brings_back (rule F (point k).locale) ≡ true
+      → point (suc k) ≡ arrival (triple (suc k)) l.variant
   arrives k = arrives_by k (rule F (point k).locale) (applies F (point k).locale) (point-suc k)
 
   -- the unknown locale is never left
@@ -103,14 +119,18 @@ module _ (F : Tables) (first : Option (List ℕ)) (l : Locale) where
   HasArrival k j = ((i : ℕ) × (i < k) × (point i ≡ arrival (triple j) l.variant))
 
   -- a step that brings the variant back is not behind the unknown locale
-  not_behind_unknown : (n : ℕ) → brings_back (rule F (point n).locale) ≡ true → (j : ℕ) → j ≤ n → (point j).locale ≡ unknown → ⊥
+  not_behind_unknown : (n : ℕ) → brings_back (rule F (point n).locale) ≡ true → (j : ℕ) → j ≤ n
+      → (point j).locale ≡ unknown → ⊥
   not_behind_unknown n back j below e =
       let whole : (n - j) + j ≡ n = omega arith in
       let there : (point n).locale ≡ unknown = subst (λ x. (point x).locale ≡ unknown) whole (stays_unknown j (n - j) e) in
       let rest : brings_back (rule F (point n).locale) ≡ false = ap (λ x. brings_back (rule F x)) there in
       false≢true (sym rest ∙ back)
 
-  start_arrives : (n : ℕ) → brings_back (rule F (point n).locale) ≡ true → (r : Rule) → rule F (point zero).locale ≡ r → Applies F (point zero).locale r → point (suc zero) ≡ behind zero r → HasArrival (suc n) zero
+  -- the triple of the start is arrived at
+  start_arrives : (n : ℕ) → brings_back (rule F (point n).locale) ≡ true → (r : Rule)
+      → rule F (point zero).locale ≡ r → Applies F (point zero).locale r
+      → point (suc zero) ≡ behind zero r → HasArrival (suc n) zero
   start_arrives n back r is (at_unknown e) to = absurd (not_behind_unknown n back zero (omega arith) e)
   start_arrives zero back r is (with_subdivision s) to = absurd (false≢true (sym (ap brings_back is) ∙ back))
   start_arrives (suc n) back r is (with_subdivision s) to = (
@@ -130,10 +150,14 @@ module _ (F : Tables) (first : Option (List ℕ)) (l : Locale) where
   start_arrives n back r is (with_language s v) to =
       (zero, omega arith, same_point (point zero) (arrival (triple zero) l.variant) refl (ap (λ p. p.locale.variant) point-zero) s (ap (λ p. p.kept) point-zero))
 
+  -- a step that leaves the triple leaves the arrival
   same_arrival : (k j : ℕ) → triple (suc j) ≡ triple j → HasArrival k j → HasArrival k (suc j)
   same_arrival k j same (i, below, is) = (i, below, is ∙ ap (λ t. arrival t l.variant) (sym same))
 
-  next_arrives : (n : ℕ) → brings_back (rule F (point n).locale) ≡ true → (j : ℕ) → suc j ≤ n → (r : Rule) → rule F (point j).locale ≡ r → Applies F (point j).locale r → point (suc j) ≡ behind j r → HasArrival (suc n) j → HasArrival (suc n) (suc j)
+  -- the triple of a later point is arrived at too
+  next_arrives : (n : ℕ) → brings_back (rule F (point n).locale) ≡ true → (j : ℕ) → suc j ≤ n
+      → (r : Rule) → rule F (point j).locale ≡ r → Applies F (point j).locale r
+      → point (suc j) ≡ behind j r → HasArrival (suc n) j → HasArrival (suc n) (suc j)
   next_arrives n back j below r is (at_unknown e) to h = absurd (not_behind_unknown n back j (omega arith) e)
   next_arrives n back j below r is (with_subdivision s) to h = same_arrival (suc n) j (ap (λ p. triple_of p.locale) to) h
   next_arrives n back j below r is (with_variant s v) to h = same_arrival (suc n) j (ap (λ p. triple_of p.locale) to) h
@@ -142,7 +166,9 @@ module _ (F : Tables) (first : Option (List ℕ)) (l : Locale) where
   next_arrives n back j below r is (with_language s v) to h =
       absurd (not_behind_unknown n back (suc j) below (ap (λ p. p.locale) to))
 
-  has_arrival : (n : ℕ) → brings_back (rule F (point n).locale) ≡ true → (j : ℕ) → j ≤ n → HasArrival (suc n) j
+  -- so is that of each point before step k
+  has_arrival : (n : ℕ) → brings_back (rule F (point n).locale) ≡ true → (j : ℕ) → j ≤ n
+      → HasArrival (suc n) j
   has_arrival n back zero below =
       start_arrives n back (rule F (point zero).locale) refl (applies F (point zero).locale) (point-suc zero)
   has_arrival n back (suc j) below =
@@ -152,7 +178,9 @@ module _ (F : Tables) (first : Option (List ℕ)) (l : Locale) where
   abbrev IsBefore : ℕ → Point → Type 0
   IsBefore k p = ((j : ℕ) × (j < k) × (p ≡ point j))
 
-  returns_to : (n : ℕ) → brings_back (rule F (point n).locale) ≡ true → (i : ℕ) → i < suc n → triple (suc n) ≡ triple i → IsBefore (suc n) (point (suc n))
+  -- a step to an earlier triple leads to a point before it
+  returns_to : (n : ℕ) → brings_back (rule F (point n).locale) ≡ true → (i : ℕ) → i < suc n
+      → triple (suc n) ≡ triple i → IsBefore (suc n) (point (suc n))
   returns_to n back i below same =
       let (j, before, is) = has_arrival n back i (omega arith) in
       (j, before, arrives n back ∙ ap (λ t. arrival t l.variant) same ∙ sym is)
@@ -172,7 +200,9 @@ module _ (F : Tables) (first : Option (List ℕ)) (l : Locale) where
             (i, below, to ∙ ap point whole ∙ at_i)
       ]
 
-  pub revisits : (k n : ℕ) → RepeatsAt F first (record { locale = l; kept = None }) k → ((j : ℕ) × (j < k) × ((point n).locale ≡ (point j).locale))
+  -- from a repeated triple on each locale is one from before
+  pub revisits : (k n : ℕ) → RepeatsAt F first (record { locale = l; kept = None }) k
+      → ((j : ℕ) × (j < k) × ((point n).locale ≡ (point j).locale))
   revisits zero n (back, (i, below, same)) = absurd (omega arith)
   revisits (suc k) n (back, (i, below, same)) =
       let here : brings_back (rule F (point k).locale) ≡ true = rw sub-one at back in

@@ -1,50 +1,43 @@
 -- What is known of a locale where each rule of the walk applies.
-use Rattle.std.proofs.Common.{◌≡◌, true, false, cond, Option, Some, None, is_some, is_none, refl, sym}
+use Rattle.std.proofs.Common.{◌≡◌, true, false, cond, Some, None, is_some, refl}
 use Rattle.std.specs.FinMap as map
-use Rattle.std.specs.Cmp.{first_so, second_so}
-use Rattle.std.specs.Cmp.Lexicographic.{same_text}
+use Rattle.std.proofs.lemmas.Bool.{and_parts}
+use Rattle.icu_locale_core.specs.EqualityLaws.{same_text-Decides}
 use Rattle.icu_locale_core.specs.Locale.{Locale, unknown}
 use Rattle.icu_locale_fallback.specs.Triple.{Triple, triple_of}
 use Rattle.icu_locale_fallback.specs.Tables.{Tables}
-use Rattle.icu_locale_fallback.specs.Normal.{text_eq}
+use Rattle.icu_locale_fallback.proofs.Options.{none_by_is_none, none_by_is_some}
 use Rattle.icu_locale_fallback.specs.Walk.{Rule, stays, drops_subdivision, drops_variant, to_parent, drops_region, drops_language, rule, parent_or, is_unknown}
 
-same_locale : (a b : Locale) → a.language ≡ b.language → a.script ≡ b.script → a.region ≡ b.region → a.variant ≡ b.variant → a.subdivision ≡ b.subdivision → a ≡ b
-same_locale a b l s r v d i = record { language = l i; script = s i; region = r i; variant = v i; subdivision = d i }
+-- the same subtags make the same locale
+same_subtags : (a b : Locale) → a.language ≡ b.language → a.script ≡ b.script
+    → a.region ≡ b.region → a.variant ≡ b.variant → a.subdivision ≡ b.subdivision → a ≡ b
+same_subtags a b l s r v d i = record { language = l i; script = s i; region = r i; variant = v i; subdivision = d i }
 
-no_value : {A : Type 0} (o : Option A) → is_none o ≡ true → o ≡ None
-no_value None h = refl
-no_value (Some x) h = cc
-
+-- the test for the unknown locale holds of no other
 pub unknown_of : (l : Locale) → is_unknown l ≡ true → l ≡ unknown
 unknown_of l h =
-    let language = first_so (text_eq l.language unknown.language) _ h in
-    let h1 = second_so (text_eq l.language unknown.language) _ h in
-    let script = first_so (is_none l.script) _ h1 in
-    let h2 = second_so (is_none l.script) _ h1 in
-    let region = first_so (is_none l.region) _ h2 in
-    let h3 = second_so (is_none l.region) _ h2 in
-    let variant = first_so (is_none l.variant) _ h3 in
-    let subdivision = second_so (is_none l.variant) _ h3 in
-    same_locale l unknown
-    (same_text l.language unknown.language (sym language))
-    (no_value l.script script)
-    (no_value l.region region)
-    (no_value l.variant variant)
-    (no_value l.subdivision subdivision)
+    let language = and_parts _ _ h in
+    let script = and_parts _ _ language.1 in
+    let region = and_parts _ _ script.1 in
+    let variant = and_parts _ _ region.1 in
+    same_subtags l unknown
+    ((same_text-Decides l.language unknown.language).0 language.0)
+    (none_by_is_none l.script script.0)
+    (none_by_is_none l.region region.0)
+    (none_by_is_none l.variant variant.0)
+    (none_by_is_none l.subdivision variant.1)
 
 -- what is known where the rule r applies to l
 pub data Applies (F : Tables) (l : Locale) : Rule → Type 0 where
   at_unknown : l ≡ unknown → Applies F l stays
   with_subdivision : is_some l.subdivision ≡ true → Applies F l drops_subdivision
   with_variant : l.subdivision ≡ None → is_some l.variant ≡ true → Applies F l drops_variant
-  with_parent : {parent : Triple} → l.subdivision ≡ None → l.variant ≡ None → map.get F.parents (triple_of l) ≡ Some parent → Applies F l (to_parent parent)
-  with_region : l.subdivision ≡ None → l.variant ≡ None → is_some l.region ≡ true → Applies F l drops_region
+  with_parent : {parent : Triple} → l.subdivision ≡ None → l.variant ≡ None
+      → map.get F.parents (triple_of l) ≡ Some parent → Applies F l (to_parent parent)
+  with_region : l.subdivision ≡ None → l.variant ≡ None → is_some l.region ≡ true
+      → Applies F l drops_region
   with_language : l.subdivision ≡ None → l.variant ≡ None → Applies F l drops_language
-
-absent : {A : Type 0} (o : Option A) → is_some o ≡ false → o ≡ None
-absent None h = refl
-absent (Some x) h = cc
 
 -- the rule that the walk takes applies
 pub applies : (F : Tables) (l : Locale) → Applies F l (rule F l)
@@ -54,22 +47,28 @@ applies F l =
       | false ↦ λ e. behind_unknown
     ] refl
   where
+    -- the rules behind those for subdivision and variant
     after_variant : Rule
     after_variant = parent_or (map.get F.parents (triple_of l)) (cond (is_some l.region) drops_region drops_language)
 
+    -- the rules behind that for the subdivision
     after_subdivision : Rule
     after_subdivision = cond (is_some l.variant) drops_variant after_variant
 
+    -- the rules behind that for the unknown locale
     after_unknown : Rule
     after_unknown = cond (is_some l.subdivision) drops_subdivision after_subdivision
 
-    behind_parent : l.subdivision ≡ None → l.variant ≡ None → Applies F l (cond (is_some l.region) drops_region drops_language)
+    -- where there is no parent
+    behind_parent : l.subdivision ≡ None → l.variant ≡ None
+        → Applies F l (cond (is_some l.region) drops_region drops_language)
     behind_parent s v =
         elim (is_some l.region) as (λ b. is_some l.region ≡ b → Applies F l (cond b drops_region drops_language)) [
           | true ↦ λ e. with_region s v e
           | false ↦ λ e. with_language s v
         ] refl
 
+    -- where there is no variant
     behind_variant : l.subdivision ≡ None → l.variant ≡ None → Applies F l after_variant
     behind_variant s v =
         elim (map.get F.parents (triple_of l)) as (λ o. map.get F.parents (triple_of l) ≡ o → Applies F l (parent_or o (cond (is_some l.region) drops_region drops_language))) [
@@ -77,16 +76,18 @@ applies F l =
           | None ↦ λ e. behind_parent s v
         ] refl
 
+    -- where there is no subdivision
     behind_subdivision : l.subdivision ≡ None → Applies F l after_subdivision
     behind_subdivision s =
         elim (is_some l.variant) as (λ b. is_some l.variant ≡ b → Applies F l (cond b drops_variant after_variant)) [
           | true ↦ λ e. with_variant s e
-          | false ↦ λ e. behind_variant s (absent l.variant e)
+          | false ↦ λ e. behind_variant s (none_by_is_some l.variant e)
         ] refl
 
+    -- where the locale is not the unknown one
     behind_unknown : Applies F l after_unknown
     behind_unknown =
         elim (is_some l.subdivision) as (λ b. is_some l.subdivision ≡ b → Applies F l (cond b drops_subdivision after_subdivision)) [
           | true ↦ λ e. with_subdivision e
-          | false ↦ λ e. behind_subdivision (absent l.subdivision e)
+          | false ↦ λ e. behind_subdivision (none_by_is_some l.subdivision e)
         ] refl

@@ -6,19 +6,24 @@ use Rattle.std.specs.Ordering.{eq_by_cmp}
 use Rattle.std.proofs.lemmas.Bool.{false≢true}
 use Rattle.std.proofs.lemmas.List.{length_push}
 use Rattle.std.proofs.lemmas.Slice.Zip.{all_zipped_more}
-use Rattle.writeable.specs.declared.text.TextRow.{TextRow}
+use Rattle.writeable_core.specs.declared.text.TextRow.{TextRow}
 use Rattle.icu_locale_fallback.specs.Rows.{Misses, AreDistinct, IsTableOf}
 use Rattle.icu_locale_fallback.specs.Triple.{Triple, triple_cmp}
+use Rattle.icu_locale_fallback.proofs.Options.{none_by_is_some}
 use Rattle.icu_locale_fallback.proofs.TripleOrder.{triple_cmp_total, triple_cmp-IsAntisymmetric, ties_itself, equal_of_tie}
 
 module _ {X : Type 0} where
+  -- the first entry of a key
   abbrev find : Triple → List (Triple × X) → Option X
   find = finite.find triple_cmp
 
+  -- the keys of entries
   abbrev keys_of : List (Triple × X) → List Triple
   keys_of es = map (λ e. e.0) es
 
-  misses-push : (es : List (Triple × X)) (e : Triple × X) (x : Triple) → Misses (keys_of es) x → ¬ (x ≡ e.0) → Misses (keys_of (es ++ e ∷ [])) x
+  -- a key that no entry has, nor the one that is pushed
+  misses-push : (es : List (Triple × X)) (e : Triple × X) (x : Triple) → Misses (keys_of es) x
+      → ¬ (x ≡ e.0) → Misses (keys_of (es ++ e ∷ [])) x
   misses-push [] e x h other = (other, tt)
   misses-push (y ∷ es) e x h other = (h.0, misses-push es e x h.1 other)
 
@@ -27,27 +32,27 @@ module _ {X : Type 0} where
   passed true x o h = cc
   passed false x o h = (refl, h)
 
-  distinct-push : (es : List (Triple × X)) (e : Triple × X) → find e.0 es ≡ None → AreDistinct (keys_of es) → AreDistinct (keys_of (es ++ e ∷ []))
+  -- a new key at the end
+  distinct-push : (es : List (Triple × X)) (e : Triple × X) → find e.0 es ≡ None
+      → AreDistinct (keys_of es) → AreDistinct (keys_of (es ++ e ∷ []))
   distinct-push [] e none h = (tt, tt)
   distinct-push (y ∷ es) e none h =
       let past = passed (eq_by_cmp triple_cmp e.0 y.0) y.1 (find e.0 es) none in
       let other : ¬ (y.0 ≡ e.0) = λ same. false≢true (sym past.0 ∙ ties_itself e.0 y.0 (sym same)) in
       (misses-push es e y.0 h.0 other, distinct-push es e past.1 h.1)
 
-  absent : (o : Option X) → is_some o ≡ false → o ≡ None
-  absent None h = refl
-  absent (Some x) h = cc
-
--- what an insertion answered of the key
+-- what an insertion answered of a key that is new
 pub is_new : (fresh contained : Bool) → fresh ≡ not contained → fresh ≡ true → contained ≡ false
 is_new fresh true e h = absurd (false≢true (sym e ∙ h))
 is_new fresh false e h = refl
 
+-- and of one that was there
 pub is_old : (fresh contained : Bool) → fresh ≡ not contained → fresh ≡ false → contained ≡ true
 is_old fresh true e h = refl
 is_old fresh false e h = absurd (false≢true (sym h ∙ e))
 
 module _ {X : Type 0} (key : TextRow → Triple → Type 0) (value : TextRow → X → Type 0) where
+  -- no row makes the empty table
   pub no_rows : IsTableOf key value [] finite.empty
   no_rows = record {
     entries = [];
@@ -56,10 +61,11 @@ module _ {X : Type 0} (key : TextRow → Triple → Type 0) (value : TextRow →
     len = finite.len-empty triple_cmp X;
   }
 
+  -- a row with a new key and a value is put in
   pub one_more : (rows : List TextRow) (table : finite.FinMap triple_cmp X) (row : TextRow) (k : Triple) (v : X) → IsTableOf key value rows table → key row k → value row v → finite.contains_key table k ≡ false → IsTableOf key value (rows ++ row ∷ []) (finite.insert table k v)
   one_more rows table row k v h key_is value_is fresh =
       let none : find k h.entries ≡ None =
-      absent (find k h.entries)
+      none_by_is_some (find k h.entries)
       (ap is_some (sym (finite.get-from_entries triple_cmp_total h.entries k) ∙ ap (λ t. finite.get t k) (sym h.table_is)) ∙ fresh) in
       let longer : finite.len (finite.insert table k v) ≡ finite.len table + 1 =
       finite.len-insert triple_cmp_total table k v ∙ ap (λ b. cond b (finite.len table) (finite.len table + 1)) fresh in
@@ -73,7 +79,10 @@ module _ {X : Type 0} (key : TextRow → Triple → Type 0) (value : TextRow →
         len = longer ∙ ap (λ n. n + 1) h.len ∙ sym (length_push rows row);
       }
 
-  found_row : (rows : List TextRow) (entries : List (Triple × X)) (k : Triple) → AllZip (λ row entry. key row entry.0 × value row entry.1) rows entries → is_some (find k entries) ≡ true → Any (λ other. key other k) rows
+  -- a key that is found is that of a row
+  found_row : (rows : List TextRow) (entries : List (Triple × X)) (k : Triple)
+      → AllZip (λ row entry. key row entry.0 × value row entry.1) rows entries
+      → is_some (find k entries) ≡ true → Any (λ other. key other k) rows
   found_row [] [] k said found = absurd (false≢true found)
   found_row [] (e ∷ entries) k said found = absurd said
   found_row (row ∷ rows) [] k said found = absurd said
@@ -83,7 +92,10 @@ module _ {X : Type 0} (key : TextRow → Triple → Type 0) (value : TextRow →
         | false ↦ λ tie found. let (i, other, below, is, key_is) = found_row rows entries k said.1 found in (suc i, other, omega arith, is, key_is)
       ] refl found
 
-  pub earlier_key : (rows : List TextRow) (table : finite.FinMap triple_cmp X) (k : Triple) → IsTableOf key value rows table → finite.contains_key table k ≡ true → Any (λ other. key other k) rows
+  -- a key that the table has is that of a row
+  pub earlier_key : (rows : List TextRow) (table : finite.FinMap triple_cmp X) (k : Triple)
+      → IsTableOf key value rows table → finite.contains_key table k ≡ true
+      → Any (λ other. key other k) rows
   earlier_key rows table k h found =
       found_row rows h.entries k h.say.said
       (ap is_some (sym (finite.get-from_entries triple_cmp_total h.entries k) ∙ ap (λ t. finite.get t k) (sym h.table_is)) ∙ found)

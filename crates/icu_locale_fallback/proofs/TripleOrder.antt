@@ -8,6 +8,7 @@ use Rattle.std.specs.Cmp.Lexicographic.{slice_cmp, nat_list_cmp_total, options_t
 use Rattle.std.specs.FinMap.{IsAntisymmetric, nat_cmp-IsAntisymmetric, slice_cmp-IsAntisymmetric}
 use Rattle.icu_locale_fallback.specs.Triple.{Triple, triple_cmp}
 
+-- the order of triples is total
 pub triple_cmp_total : IsTotalOrder triple_cmp
 triple_cmp_total =
     then_total (on_total (λ (t : Triple). t.language) nat_list_cmp_total)
@@ -20,28 +21,35 @@ no_tie Less h e = cc
 no_tie Equal h e = cc
 no_tie Greater h e = cc
 
+-- what ties in two steps ties in the first
 first_ties : (r s : Ordering) → ordering_then r s ≡ Equal → r ≡ Equal
 first_ties Less s e = e
 first_ties Equal s e = refl
 first_ties Greater s e = e
 
+-- and in the second
 second_ties : (r s : Ordering) → ordering_then r s ≡ Equal → s ≡ Equal
 second_ties Less s e = cc
 second_ties Equal s e = e
 second_ties Greater s e = cc
 
+-- texts that tie are equal
 texts_tie : IsAntisymmetric (slice_cmp nat_cmp)
 texts_tie = slice_cmp-IsAntisymmetric nat_cmp-IsAntisymmetric
 
+-- so are subtags, or none
 options_tie : (p q : Option (List ℕ)) → option_cmp (slice_cmp nat_cmp) p q ≡ Equal → p ≡ q
 options_tie None None e = refl
 options_tie None (Some y) e = cc
 options_tie (Some x) None e = cc
 options_tie (Some x) (Some y) e = ap Some (texts_tie x y e)
 
-same_parts : (a b : Triple) → a.language ≡ b.language → a.script ≡ b.script → a.region ≡ b.region → a ≡ b
+-- the same parts make the same triple
+same_parts : (a b : Triple) → a.language ≡ b.language → a.script ≡ b.script → a.region ≡ b.region
+    → a ≡ b
 same_parts a b l s r i = record { language = l i; script = s i; region = r i }
 
+-- triples that tie are equal
 pub triple_cmp-IsAntisymmetric : IsAntisymmetric triple_cmp
 triple_cmp-IsAntisymmetric a b e =
     let rest = second_ties (slice_cmp nat_cmp a.language b.language) _ e in
@@ -68,11 +76,12 @@ other_tie a b n =
       | Greater ↦ λ e. refl
     ] refl
 
--- equal triples tie, and no others
+-- equal triples tie
 pub ties_itself : (a b : Triple) → a ≡ b → eq_by_cmp triple_cmp a b ≡ true
 ties_itself a b e =
     subst (λ x. eq_by_cmp triple_cmp a x ≡ true) e (ap is_eq (tied_itself triple_cmp_total a))
 
+-- and no others
 pub equal_of_tie : (a b : Triple) → eq_by_cmp triple_cmp a b ≡ true → a ≡ b
 equal_of_tie a b tie =
     elim (triple_cmp a b) as (λ r. triple_cmp a b ≡ r → is_eq r ≡ true → a ≡ b) [

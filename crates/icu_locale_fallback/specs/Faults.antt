@@ -1,7 +1,7 @@
 -- What an error says of the rows that make no fallbacker.
 use Rattle.std.specs.Prelude.{◌≡◌, ℕ, List, take}
 use Rattle.std.specs.FinMap as finite
-use Rattle.writeable.specs.declared.text.TextRow.{TextRow}
+use Rattle.writeable_core.specs.declared.text.TextRow.{TextRow}
 use Rattle.icu_locale_fallback.specs.declared.rows.FallbackRows.{FallbackRows}
 use Rattle.icu_locale_fallback.specs.declared.rows.TableError.{TableError}
 use Rattle.icu_locale_fallback.specs.declared.rows.TableError.TheVariants.{DuplicateKey, BadKey, BadValue, NoMemory}
@@ -23,8 +23,10 @@ module _ {X : Type 0} (key : TextRow → Triple → Type 0) (value : TextRow →
 -- the tables 0 to 2 are those of the rows
 pub record AreLikelyOf (rows : FallbackRows) (likely : LikelySubtags) : Type 0 where
   pub language : IsTableOf LanguageKey LikelyValue rows.likely_language.items likely.language
-  pub language_script : IsTableOf LanguageScriptKey RegionValue rows.likely_language_script.items likely.language_script
-  pub language_region : IsTableOf LanguageRegionKey ScriptValue rows.likely_language_region.items likely.language_region
+  pub language_script :
+      IsTableOf LanguageScriptKey RegionValue rows.likely_language_script.items likely.language_script
+  pub language_region :
+      IsTableOf LanguageRegionKey ScriptValue rows.likely_language_region.items likely.language_region
 
 -- table 3 is
 abbrev pub AreParentsOf : FallbackRows → finite.FinMap triple_cmp Triple → Type 0
@@ -41,14 +43,22 @@ pub record AreLikelySound (rows : FallbackRows) : Type 0 where
   pub language_script : AreSound LanguageScriptKey RegionValue rows.likely_language_script.items
   pub language_region : AreSound LanguageRegionKey ScriptValue rows.likely_language_region.items
 
+-- no row is faulty
+pub record AreRowsSound (rows : FallbackRows) : Type 0 where
+  pub likely : AreLikelySound rows
+  pub parents : AreSound ChildKey ParentValue rows.parents.items
+
 -- the first fault of the tables 0 to 2, in this order
 pub data IsLikelyFault (rows : FallbackRows) (error : TableError) : Type 0 where
-  in_language : IsFaultOf LanguageKey LikelyValue 0 rows.likely_language.items error → IsLikelyFault rows error
+  in_language : IsFaultOf LanguageKey LikelyValue 0 rows.likely_language.items error
+      → IsLikelyFault rows error
   in_language_script : AreSound LanguageKey LikelyValue rows.likely_language.items
-      → IsFaultOf LanguageScriptKey RegionValue 1 rows.likely_language_script.items error → IsLikelyFault rows error
+      → IsFaultOf LanguageScriptKey RegionValue 1 rows.likely_language_script.items error
+      → IsLikelyFault rows error
   in_language_region : AreSound LanguageKey LikelyValue rows.likely_language.items
       → AreSound LanguageScriptKey RegionValue rows.likely_language_script.items
-      → IsFaultOf LanguageRegionKey ScriptValue 2 rows.likely_language_region.items error → IsLikelyFault rows error
+      → IsFaultOf LanguageRegionKey ScriptValue 2 rows.likely_language_region.items error
+      → IsLikelyFault rows error
 
 -- that of table 3
 abbrev pub IsParentsFault : FallbackRows → TableError → Type 0

@@ -1,23 +1,18 @@
--- The locale that a walk begins with (after UTS 35, Part 1, section 4.3, Likely Subtags, as `icu_locale_fallback` applies it).
+-- The locale that a walk begins with (after UTS 35, likely subtags, as `icu_locale_fallback`
+-- applies them).
 use Rattle.std.specs.Prelude.{ℕ, List, Option, Some, None, Bool, ◌&&◌, ◌||◌, not, false, true, is_some, map, nat_eq, codes, if◌then◌else◌}
-use Rattle.std.specs.Option.{option_or, option_eq, option_and_then}
+use Rattle.std.specs.Option.{option_or, option_and_then}
 use Rattle.std.specs.List.{starts_with, ends_with}
 use Rattle.std.specs.Char.{to_ascii_lowercase}
-use Rattle.std.specs.Cmp.Lexicographic.{pointwise}
+use Rattle.icu_locale_core.specs.Equality.{same_subtag}
 use Rattle.icu_locale_core.specs.Locale.{Locale}
 use Rattle.icu_locale_fallback.specs.declared.config.LocaleFallbackPriority.{LocaleFallbackPriority}
 use Rattle.icu_locale_fallback.specs.declared.config.LocaleFallbackPriority.TheVariants.{Language, Script, Region}
 use Rattle.icu_locale_fallback.specs.Tables.{LikelySubtags, likely_region, default_script}
 
--- one text, and one subtag or none
-abbrev pub text_eq : List ℕ → List ℕ → Bool
-text_eq = pointwise nat_eq
-
-abbrev pub subtag_eq : Option (List ℕ) → Option (List ℕ) → Bool
-subtag_eq = option_eq text_eq
-
--- A subdivision belongs to a region where the region's text, in lower case, begins it, and it does not stand for the whole
--- region, as one that ends `zzzz` does (UTS 35, Part 1, section 3.6.5).
+-- A subdivision belongs to a region where the region's text, in lower case, begins it, and it
+-- does not stand for the whole region, as one that ends `zzzz` does (UTS 35, subdivision
+-- codes).
 abbrev pub belongs : List ℕ → List ℕ → Bool
 belongs subdivision region =
     starts_with nat_eq subdivision (map to_ascii_lowercase region)
@@ -26,7 +21,8 @@ belongs subdivision region =
 -- 1. the subdivision, where it belongs to the region
 abbrev pub kept_subdivision : Locale → Option (List ℕ)
 kept_subdivision l =
-    option_and_then (λ region. option_and_then (λ s. if belongs s region then Some s else None) l.subdivision) l.region
+    option_and_then (λ region.
+    option_and_then (λ s. if belongs s region then Some s else None) l.subdivision) l.region
 
 -- 2. the region; where there is none, the region priority takes the likely one
 abbrev pub region_of : LikelySubtags → LocaleFallbackPriority → Locale → Option (List ℕ)
@@ -35,13 +31,16 @@ region_of likely Region l =
 region_of likely Language l = l.region
 region_of likely Script l = l.region
 
+-- whether the priority is the script's
 abbrev pub is_script_priority : LocaleFallbackPriority → Bool
 is_script_priority Script = true
 is_script_priority Language = false
 is_script_priority Region = false
 
--- 3. the default script for a region, looked up where there is a script or a region, and always in the script priority
-abbrev pub default_of : LikelySubtags → LocaleFallbackPriority → Locale → Option (List ℕ) → Option (List ℕ)
+-- 3. the default script for a region, looked up where there is a script or a region, and always
+-- in the script priority
+abbrev pub default_of : LikelySubtags → LocaleFallbackPriority → Locale → Option (List ℕ)
+    → Option (List ℕ)
 default_of likely priority l region =
     if is_some l.script || (is_some region || is_script_priority priority)
     then default_script likely l.language region
@@ -53,7 +52,7 @@ default_script_of likely priority l = default_of likely priority l (region_of li
 
 -- a script, but for one that is the default
 abbrev pub but_default : Option (List ℕ) → Option (List ℕ) → Option (List ℕ)
-but_default script default = if subtag_eq script default then None else script
+but_default script default = if same_subtag script default then None else script
 
 -- the script, but for one that is the default
 abbrev pub script_of : LikelySubtags → LocaleFallbackPriority → Locale → Option (List ℕ)

@@ -3,19 +3,22 @@ use Rattle.std.specs.Prelude.{◌≡◌, ℕ, List, [], ◌∷◌, Some, None, m
 use Rattle.std.specs.FinMap as finite
 use Rattle.std.specs.List.{AllZip}
 use Rattle.icu_locale_core.specs.Shapes.{IsLanguage, IsScript, IsRegion}
-use Rattle.writeable.specs.declared.text.TextRow.{TextRow}
+use Rattle.writeable_core.specs.declared.text.TextRow.{TextRow}
 use Rattle.icu_locale_fallback.specs.Tables.{Likely}
 use Rattle.icu_locale_fallback.specs.Cells.{PrintsAs}
 use Rattle.icu_locale_fallback.specs.Triple.{Triple, triple_cmp, language_alone}
 
--- What the cells of a row say, as relations between the row and what it says: the subtags stand in canonical case (UTS 35, Part 1,
--- section 3.2.1).
--- A row of `likely_language` is language, script, region; its key is the language.
+-- What the cells of a row say, as relations between the row and what it says: the subtags stand
+-- in canonical case (UTS 35, Unicode locale identifiers). A row of `likely_language` is
+-- language, script, region; its key is the language.
 abbrev pub LanguageKey : TextRow → Triple → Type 0
 LanguageKey row key = IsLanguage row.first × (key ≡ language_alone row.first)
 
+-- its value is the script and the region
 abbrev pub LikelyValue : TextRow → Likely → Type 0
-LikelyValue row value = IsScript row.second × IsRegion row.third × (value ≡ record { script = row.second; region = row.third })
+LikelyValue row value =
+    IsScript row.second × IsRegion row.third
+    × (value ≡ record { script = row.second; region = row.third })
 
 -- A row of `likely_language_script` is language, script, region; its key is the first two.
 abbrev pub LanguageScriptKey : TextRow → Triple → Type 0
@@ -23,6 +26,7 @@ LanguageScriptKey row key =
     IsLanguage row.first × IsScript row.second
     × (key ≡ record { language = row.first; script = Some row.second; region = None })
 
+-- its value is the region
 abbrev pub RegionValue : TextRow → List ℕ → Type 0
 RegionValue row value = IsRegion row.third × (value ≡ row.third)
 
@@ -32,6 +36,7 @@ LanguageRegionKey row key =
     IsLanguage row.first × IsRegion row.second
     × (key ≡ record { language = row.first; script = None; region = Some row.second })
 
+-- its value is the script
 abbrev pub ScriptValue : TextRow → List ℕ → Type 0
 ScriptValue row value = IsScript row.third × (value ≡ row.third)
 
@@ -39,14 +44,16 @@ ScriptValue row value = IsScript row.third × (value ≡ row.third)
 abbrev pub ChildKey : TextRow → Triple → Type 0
 ChildKey row key = PrintsAs row.first key
 
+-- its value is the parent
 abbrev pub ParentValue : TextRow → Triple → Type 0
 ParentValue row value = PrintsAs row.second value
 
--- no two keys are equal
+-- the key is none of these
 abbrev pub Misses : List Triple → Triple → Type 0
 Misses [] x = Unit {0}
 Misses (y ∷ ys) x = ¬ (x ≡ y) × Misses ys x
 
+-- no two keys are equal
 abbrev pub AreDistinct : List Triple → Type 0
 AreDistinct [] = Unit {0}
 AreDistinct (x ∷ xs) = Misses xs x × AreDistinct xs
@@ -72,17 +79,19 @@ module _ {X : Type 0} (key : TextRow → Triple → Type 0) (value : TextRow →
     pub table_is : table ≡ finite.from_entries entries
     pub len : finite.len table ≡ length rows
 
-  -- Row i is the first faulty one, and this is its first fault: it has no key; it has a key and no value; it has both, and its key
-  -- is that of an earlier row.
+  -- Row i is the first faulty one, and this is its first fault: it has no key; it has a key and
+  -- no value; it has both, and its key is that of an earlier row.
   pub record FirstFaultIs (rows : List TextRow) (i : ℕ) (fault : TextRow → Type 0) : Type 0 where
     pub before : AreSound (take i rows)
     pub row : TextRow
     pub row_is : slice_get rows i ≡ Some row
     pub fault_is : fault row
 
+  -- a row with a key and no value
   abbrev pub HasNoValue : TextRow → Type 0
   HasNoValue row = ((k : Triple) × key row k) × ((v : X) → ¬ (value row v))
 
+  -- a row with a key and a value, whose key is that of an earlier row
   abbrev pub HasEarlierKey : List TextRow → TextRow → Type 0
   HasEarlierKey earlier row =
       (k : Triple) × key row k × ((v : X) × value row v) × Any (λ other. key other k) earlier

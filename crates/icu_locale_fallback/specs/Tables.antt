@@ -1,4 +1,4 @@
--- The tables of a fallbacker: likely subtags (UTS 35, Part 1, section 4.3) and parent locales (section 4.1.3).
+-- The tables of a fallbacker: likely subtags and parent locales (UTS 35).
 use Rattle.std.specs.Prelude.{ℕ, List, Option, Some, None, refl}
 use Rattle.std.specs.Coded.{Coded, code_by, coded×, coded_ℕ, coded_list}
 use Rattle.std.specs.Option.{option_map, option_or, option_and_then}
@@ -10,8 +10,8 @@ pub record Likely : Type 0 where
   pub script : List ℕ
   pub region : List ℕ
 
--- The likely subtags: of a language, of a language and a script, of a language and a region. A key has the subtags that it
--- is for, and no other.
+-- The likely subtags: of a language, of a language and a script, of a language and a region. A
+-- key has the subtags that it is for, and no other.
 pub record LikelySubtags : Type 0 where
   pub language : map.FinMap triple_cmp Likely
   pub language_script : map.FinMap triple_cmp (List ℕ)
@@ -24,28 +24,34 @@ pub record Tables : Type 0 where
 
 -- the tables with no row
 abbrev pub no_likely_subtags : LikelySubtags
-no_likely_subtags = record { language = map.empty; language_script = map.empty; language_region = map.empty }
+no_likely_subtags =
+    record { language = map.empty; language_script = map.empty; language_region = map.empty }
 
+-- of all tables
 abbrev pub no_tables : Tables
 no_tables = record { likely = no_likely_subtags; parents = map.empty }
 
--- how these are stored
+-- how a row of a language is stored
 abbrev pub likely_code : Coded Likely
 likely_code =
     code_by (List ℕ × List ℕ) (coded× (coded_list coded_ℕ) (coded_list coded_ℕ))
     (λ l. (l.script, l.region)) (λ p. record { script = p.0; region = p.1 }) (λ _. refl)
 
+-- a table of texts
 abbrev pub texts_code : Coded (map.FinMap triple_cmp (List ℕ))
 texts_code = map.code triple_code (coded_list coded_ℕ)
 
+-- the three tables of likely subtags
 abbrev pub likely_subtags_code : Coded LikelySubtags
 likely_subtags_code =
-    code_by (map.FinMap triple_cmp Likely × (map.FinMap triple_cmp (List ℕ) × map.FinMap triple_cmp (List ℕ)))
+    code_by
+    (map.FinMap triple_cmp Likely × (map.FinMap triple_cmp (List ℕ) × map.FinMap triple_cmp (List ℕ)))
     (coded× (map.code triple_code likely_code) (coded× texts_code texts_code))
     (λ l. (l.language, (l.language_script, l.language_region)))
     (λ p. record { language = p.0; language_script = p.1.0; language_region = p.1.1 })
     (λ _. refl)
 
+-- all tables
 abbrev pub tables_code : Coded Tables
 tables_code =
     code_by (LikelySubtags × map.FinMap triple_cmp Triple)
@@ -65,12 +71,16 @@ likely_script likely language = option_map (λ row. row.script) (row_of likely l
 abbrev pub likely_region : LikelySubtags → List ℕ → Option (List ℕ) → Option (List ℕ)
 likely_region likely language script =
     option_or
-    (option_and_then (λ s. map.get likely.language_script (record { language = language; script = Some s; region = None })) script)
+    (option_and_then (λ s.
+    map.get likely.language_script (record { language = language; script = Some s; region = None }))
+    script)
     (option_map (λ row. row.region) (row_of likely language))
 
 -- the default script of a language and a region: that of their row, else that of the language's
 abbrev pub default_script : LikelySubtags → List ℕ → Option (List ℕ) → Option (List ℕ)
 default_script likely language region =
     option_or
-    (option_and_then (λ r. map.get likely.language_region (record { language = language; script = None; region = Some r })) region)
+    (option_and_then (λ r.
+    map.get likely.language_region (record { language = language; script = None; region = Some r }))
+    region)
     (likely_script likely language)

@@ -1,4 +1,4 @@
--- The language, script and region of a locale, by which inheritance goes (UTS 35, Part 1, section 4.1.3, Parent Locales).
+-- The language, script and region of a locale, by which inheritance goes (UTS 35, parent locales).
 use Rattle.std.specs.Prelude.{ℕ, List, Option, None, refl}
 use Rattle.std.specs.Coded.{Coded, code_by, coded×, coded_ℕ, coded_list, coded_option}
 use Rattle.std.specs.declared.cmp.Ordering.{Ordering}
@@ -7,6 +7,7 @@ use Rattle.std.specs.Option.{option_cmp}
 use Rattle.std.specs.Cmp.Lexicographic.{slice_cmp}
 use Rattle.icu_locale_core.specs.Locale.{Locale}
 
+-- language, script and region
 pub record Triple : Type 0 where
   pub language : List ℕ
   pub script : Option (List ℕ)
@@ -32,7 +33,8 @@ triple_cmp a b =
 abbrev pub triple_code : Coded Triple
 triple_code =
     code_by (List ℕ × (Option (List ℕ) × Option (List ℕ)))
-    (coded× (coded_list coded_ℕ) (coded× (coded_option (coded_list coded_ℕ)) (coded_option (coded_list coded_ℕ))))
+    (coded× (coded_list coded_ℕ)
+    (coded× (coded_option (coded_list coded_ℕ)) (coded_option (coded_list coded_ℕ))))
     (λ t. (t.language, (t.script, t.region)))
     (λ p. record { language = p.0; script = p.1.0; region = p.1.1 })
     (λ _. refl)

@@ -12,10 +12,11 @@ use Rattle.icu_locale_fallback.specs.Steps.{Reached, start, step_of}
 use Rattle.icu_locale_fallback.specs.Tables.{Tables}
 use Rattle.icu_locale_fallback.specs.Walk.{Point, next}
 
--- the tables that are viewed
+-- the tables that a view shows
 abbrev pub viewed : LocaleFallbackerBorrowed → Tables
 viewed view = view.fallbacker.now
 
+-- the tables that a view with a configuration shows
 abbrev pub tables_of : LocaleFallbackerWithConfig → Tables
 tables_of view = view.fallbacker.now
 
@@ -48,7 +49,12 @@ walk_of it =
 -- a walk that begins at a locale
 abbrev pub begun : Tables → LocaleFallbackPriority → Locale → Walk
 begun F priority l =
-    record { tables = F; priority = priority; first = first_script F.likely priority l; reached = start F priority l }
+    record {
+      tables = F;
+      priority = priority;
+      first = first_script F.likely priority l;
+      reached = start F priority l;
+    }
 
 -- a walk one step on
 abbrev pub stepped : Walk → Walk
@@ -68,7 +74,8 @@ GoesByNext old new =
 abbrev pub Goes : (Walk → Reached) → Walk → Walk → Type 0
 Goes rule old new = new ≡ record old { reached = rule old }
 
--- A rule was tried on a walk: where it applies the walk went on by it, else it stayed, and the answer says which.
+-- A rule was tried on a walk: where it applies the walk went on by it, else it stayed, and the
+-- answer says which.
 pub record Tries (rule : Walk → Option Reached) (old new : Walk) (answer : Bool) : Type 0 where
   pub applies : answer ≡ is_some (rule old)
   pub goes : Goes (λ w. unwrap_or (rule w) w.reached) old new

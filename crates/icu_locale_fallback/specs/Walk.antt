@@ -1,17 +1,19 @@
--- The walk from a locale to the unknown one in the language priority (UTS 35, Part 1, section 4.1, Lookup, and 4.1.3, Parent
--- Locales, as `icu_locale_fallback` applies them), as a list of locales.
+-- The walk from a locale to the unknown one in the language priority (UTS 35, locale
+-- inheritance and matching, as
+-- `icu_locale_fallback` applies it), as a list of locales.
 use Rattle.std.specs.Prelude.{◌≡◌, ℕ, suc, zero, ◌+◌, ◌-◌, ◌*◌, ◌<◌, ◌≤◌, List, Option, Some, None, Bool, false, true, ◌&&◌, ◌⊎◌, is_some, is_none, if◌then◌else◌}
 use Rattle.std.specs.FinMap as map
+use Rattle.icu_locale_core.specs.Equality.{same_text, same_subtag}
 use Rattle.icu_locale_core.specs.Locale.{Locale, unknown}
 use Rattle.icu_locale_fallback.specs.declared.config.LocaleFallbackPriority.TheVariants.{Language}
 use Rattle.icu_locale_fallback.specs.Triple.{Triple, triple_of}
 use Rattle.icu_locale_fallback.specs.Tables.{Tables, likely_script}
-use Rattle.icu_locale_fallback.specs.Normal.{normal, first_script, text_eq, subtag_eq}
+use Rattle.icu_locale_fallback.specs.Normal.{normal, first_script}
 
 -- language `und` and nothing else
 abbrev pub is_unknown : Locale → Bool
 is_unknown l =
-    text_eq l.language unknown.language
+    same_text l.language unknown.language
     && (is_none l.script && (is_none l.region && (is_none l.variant && is_none l.subdivision)))
 
 -- what one step does to a locale
@@ -42,24 +44,36 @@ pub record Point : Type 0 where
   pub locale : Locale
   pub kept : Option (List ℕ)
 
--- the script that is left when the region goes: none where the first script is the language's likely one, else the first
+-- the script that is left when the region goes: none where the first script is the language's
+-- likely one, else the first
 abbrev pub script_without_region : Tables → Option (List ℕ) → List ℕ → Option (List ℕ)
 script_without_region F first language =
-    if subtag_eq (likely_script F.likely language) first then None else first
+    if same_subtag (likely_script F.likely language) first then None else first
 
 -- the step that a rule makes from l, where v is kept
 abbrev pub step_by : Rule → Tables → Option (List ℕ) → Locale → Option (List ℕ) → Point
 step_by stays F first l v = record { locale = l; kept = v }
-step_by drops_subdivision F first l v = record { locale = record l { subdivision = None }; kept = v }
-step_by drops_variant F first l v = record { locale = record l { variant = None }; kept = l.variant }
+step_by drops_subdivision F first l v =
+    record { locale = record l { subdivision = None }; kept = v }
+step_by drops_variant F first l v =
+    record { locale = record l { variant = None }; kept = l.variant }
 step_by (to_parent parent) F first l v =
     record {
-      locale = record l { language = parent.language; script = parent.script; region = parent.region; variant = v };
+      locale = record l {
+        language = parent.language;
+        script = parent.script;
+        region = parent.region;
+        variant = v;
+      };
       kept = None;
     }
 step_by drops_region F first l v =
     record {
-      locale = record l { script = script_without_region F first l.language; region = None; variant = v };
+      locale = record l {
+        script = script_without_region F first l.language;
+        region = None;
+        variant = v;
+      };
       kept = None;
     }
 step_by drops_language F first l v = record { locale = unknown; kept = v }
@@ -95,13 +109,23 @@ pub record Repeats (F : Tables) (l : Locale) (k : ℕ) : Type 0 where
   pub below : earlier < k
   pub same : triple_of (at F l k) ≡ triple_of (at F l earlier)
 
--- After at most 4 p + 5 steps, where p is the number of parent entries, the walk is at the unknown locale or repeats.
+-- After at most 4 p + 5 steps, where p is the number of parent entries, the walk is at the
+-- unknown locale or repeats.
 pub record EndsOrRepeats (F : Tables) (l : Locale) : Type 0 where
   pub steps : ℕ
   pub bound : steps ≤ 4 * map.len F.parents + 5
   pub ends : (at F l steps ≡ unknown) ⊎ Repeats F l steps
 
--- From a repeated triple on nothing new comes: that locale and each later one is one from before it.
+-- From a repeated triple on nothing new comes: that locale and each later one is one from
+-- before it.
 abbrev pub RevisitsOnly : Tables → Locale → Type 0
 RevisitsOnly F l =
     (k n : ℕ) → Repeats F l k → k ≤ n → ((j : ℕ) × (j < k) × (at F l n ≡ at F l j))
+
+-- the unknown locale is never left
+abbrev pub StaysUnknown : Tables → Locale → Type 0
+StaysUnknown F l = (k n : ℕ) → at F l k ≡ unknown → k ≤ n → at F l n ≡ unknown
+
+-- a walk that comes to the unknown locale repeats at no step
+abbrev pub NeverRepeats : Tables → Locale → Type 0
+NeverRepeats F l = (n k : ℕ) → at F l n ≡ unknown → ¬ (Repeats F l k)

@@ -41,7 +41,8 @@ impl LocaleFallbacker {
         }
     }
 
-    /// The fallbacker of these rows. The error names the first faulty row in the order of the tables.
+    /// The fallbacker of these rows. The error names the first faulty row in the order of the
+    /// tables.
     pub fn try_new(alloc: Global, rows: &FallbackRows) -> Result<LocaleFallbacker, TableError>
         ensures ok { IfOk result (AreTablesOf rows.now) }
         ensures err { IfErr result (IsFirstFault rows.now) }
@@ -123,10 +124,11 @@ impl<'a> LocaleFallbackerWithConfig<'a> {
 
     /// The walk from a locale, which begins at its normal form.
     ///
-    /// In the language priority it ends or comes round after at most 4 p + 5 steps, where p is the number of parent
-    /// entries, and in the region priority it ends after six.
+    /// In the language priority it ends or comes round after at most 4 p + 5 steps, where p is
+    /// the number of parent entries, and in the region priority it ends after six.
     pub fn fallback_for(&self, locale: DataLocale) -> LocaleFallbackIterator<'a>
-        ensures value { walk_of result ≡ begun (tables_of self.now) (config_of self.now).priority locale }
+        ensures value { walk_of result
+            ≡ begun (tables_of self.now) (config_of self.now).priority locale }
         ensures ends { EndsOrRepeats (tables_of self.now) locale }
         ensures revisits { RevisitsOnly (tables_of self.now) locale }
         ensures region_ends { region_at (tables_of self.now) locale 6 ≡ unknown }

@@ -65,7 +65,8 @@ impl<'a> LocaleFallbackIterator<'a> {
         ensures same_reference { result.ghost_name ≡ self.entry.ghost_name }
         ensures value { walk_of result.now ≡ stepped (walk_of self.old) }
         ensures next { GoesByNext (walk_of self.old) (walk_of result.now) }
-        ensures fixed { (walk_of self.old).reached.locale ≡ unknown → walk_of result.now ≡ walk_of self.old }
+        ensures fixed { (walk_of self.old).reached.locale ≡ unknown
+            → walk_of result.now ≡ walk_of self.old }
     {
         if !self.locale.is_unknown() {
             match self.priority {
@@ -77,8 +78,10 @@ impl<'a> LocaleFallbackIterator<'a> {
         self
     }
 
+    /// The language priority: the first rule that applies.
     fn step_by_language(&mut self)
-        ensures { Goes (λ w. language_rules w.tables w.first w.reached) (walk_of self.old) (walk_of self.new) }
+        ensures { Goes (λ w. language_rules w.tables w.first w.reached)
+            (walk_of self.old) (walk_of self.new) }
     {
         if self.drop_subdivision() {
             return;
@@ -95,6 +98,7 @@ impl<'a> LocaleFallbackIterator<'a> {
         self.drop_language();
     }
 
+    /// The region priority: the first rule that applies.
     fn step_by_region(&mut self)
         ensures { Goes (λ w. region_rules w.reached) (walk_of self.old) (walk_of self.new) }
     {
@@ -115,8 +119,10 @@ impl<'a> LocaleFallbackIterator<'a> {
         }
     }
 
+    /// The script priority: the first rule that applies.
     fn step_by_script(&mut self)
-        ensures { Goes (λ w. script_rules w.tables w.first w.reached) (walk_of self.old) (walk_of self.new) }
+        ensures { Goes (λ w. script_rules w.tables w.first w.reached)
+            (walk_of self.old) (walk_of self.new) }
     {
         if self.drop_subdivision() {
             return;
@@ -135,7 +141,8 @@ impl<'a> LocaleFallbackIterator<'a> {
 
     /// The last rules of the script priority.
     fn step_without_region(&mut self)
-        ensures { Goes (λ w. without_region_left w.tables w.first w.reached) (walk_of self.old) (walk_of self.new) }
+        ensures { Goes (λ w. without_region_left w.tables w.first w.reached)
+            (walk_of self.old) (walk_of self.new) }
     {
         if self.drop_likely_script() {
             return;
@@ -148,7 +155,8 @@ impl<'a> LocaleFallbackIterator<'a> {
 
     /// Drops a subdivision, and keeps it.
     fn drop_subdivision(&mut self) -> bool
-        ensures { Tries (λ w. without_subdivision w.reached) (walk_of self.old) (walk_of self.new) result }
+        ensures { Tries (λ w. without_subdivision w.reached)
+            (walk_of self.old) (walk_of self.new) result }
     {
         if self.locale.subdivision.is_none() {
             return false;
@@ -159,7 +167,8 @@ impl<'a> LocaleFallbackIterator<'a> {
 
     /// Drops a variant, and keeps it.
     fn drop_variant(&mut self) -> bool
-        ensures { Tries (λ w. without_variant w.reached) (walk_of self.old) (walk_of self.new) result }
+        ensures { Tries (λ w. without_variant w.reached)
+            (walk_of self.old) (walk_of self.new) result }
     {
         if self.locale.variant.is_none() {
             return false;
@@ -170,7 +179,8 @@ impl<'a> LocaleFallbackIterator<'a> {
 
     /// Goes to the parent, where there is one.
     fn go_to_parent(&mut self) -> bool
-        ensures { Tries (λ w. to_parent w.tables w.reached) (walk_of self.old) (walk_of self.new) result }
+        ensures { Tries (λ w. to_parent w.tables w.reached)
+            (walk_of self.old) (walk_of self.new) result }
     {
         let child = Triple::of(&self.locale);
         let Some(parent) = self.fallbacker.parents().get(child) else {
@@ -185,7 +195,8 @@ impl<'a> LocaleFallbackIterator<'a> {
 
     /// Drops the region, for the script that the locale then has.
     fn drop_region(&mut self) -> bool
-        ensures { Tries (λ w. without_region w.tables w.first w.reached) (walk_of self.old) (walk_of self.new) result }
+        ensures { Tries (λ w. without_region w.tables w.first w.reached)
+            (walk_of self.old) (walk_of self.new) result }
     {
         if self.locale.region.is_none() {
             return false;
@@ -206,7 +217,8 @@ impl<'a> LocaleFallbackIterator<'a> {
 
     /// Drops the region, and keeps it.
     fn keep_region(&mut self) -> bool
-        ensures { Tries (λ w. with_kept_region w.tables w.first w.reached) (walk_of self.old) (walk_of self.new) result }
+        ensures { Tries (λ w. with_kept_region w.tables w.first w.reached)
+            (walk_of self.old) (walk_of self.new) result }
     {
         let region = self.locale.region;
         if !self.drop_region() {
@@ -233,7 +245,8 @@ impl<'a> LocaleFallbackIterator<'a> {
 
     /// Drops a script that the language most likely has; what was kept comes back with the region.
     fn drop_likely_script(&mut self) -> bool
-        ensures { Tries (λ w. without_likely_script w.tables w.reached) (walk_of self.old) (walk_of self.new) result }
+        ensures { Tries (λ w. without_likely_script w.tables w.reached)
+            (walk_of self.old) (walk_of self.new) result }
     {
         let likely = self
             .fallbacker
@@ -253,7 +266,8 @@ impl<'a> LocaleFallbackIterator<'a> {
 
     /// Drops the language for the first script.
     fn go_to_first_script(&mut self) -> bool
-        ensures { Tries (λ w. to_first_script w.first w.reached) (walk_of self.old) (walk_of self.new) result }
+        ensures { Tries (λ w. to_first_script w.first w.reached)
+            (walk_of self.old) (walk_of self.new) result }
     {
         if !self.has_language() {
             return false;
@@ -266,9 +280,10 @@ impl<'a> LocaleFallbackIterator<'a> {
         true
     }
 
+    /// Whether the language is known.
     fn has_language(&self) -> bool
         ensures { result ≡ has_language (walk_of self.now).reached.locale }
     {
-        self.locale.language != Language::unknown()
+        !self.locale.language.is_unknown()
     }
 }

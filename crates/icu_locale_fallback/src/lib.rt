@@ -1,37 +1,45 @@
-//! Locale fallback: from a locale to those whose data may stand for its own (UTS 35, Part 1, section 4.1).
+//! Locale fallback: from a locale to those whose data may stand for its own (UTS 35, locale
+//! inheritance and matching).
 //!
-//! A [`LocaleFallbacker`] holds the tables, [`LocaleFallbackerWithConfig::fallback_for`] begins a walk at the normal form of
-//! a locale, and [`LocaleFallbackIterator::step`] goes one step on, until the locale reached is the unknown one, `und`.
-//! With likely subtags and parents from CLDR a walk from `hi-Latn-IN` goes
-//! `hi-Latn-IN`, `hi-Latn`, `en-IN`, `en-001`, `en`, `und`.
+//! ```
+//! let fallbacker = LocaleFallbacker::try_new(alloc, &rows)?;
+//! let mut walk = fallbacker
+//!     .for_config(LocaleFallbackConfig::default())
+//!     .fallback_for(DataLocale::try_from_str("hi-Latn-IN")?);
+//! while !walk.get().is_unknown() {
+//!     println!(rt; "{}", walk.get())?;
+//!     walk.step();
+//! }
+//! ```
 //!
-//! Tables are handed in as rows of texts, and may be hostile: parents may form a ring, and then a walk has no end. The
-//! contract of `fallback_for` says when it has come round. A walk takes no memory.
+//! With likely subtags and parents from CLDR this prints `hi-Latn-IN`, `hi-Latn`, `en-IN`,
+//! `en-001` and `en`; behind them the walk stays at `und`, the unknown locale.
+//!
+//! Tables are handed in as rows of texts, and may be hostile: parents may form a ring, and then a
+//! walk has no end. The contract of [`LocaleFallbackerWithConfig::fallback_for`] says after how many
+//! steps it has ended or come round. A walk takes no memory.
+//!
+//! - `config`: [`LocaleFallbackConfig`], what a walk holds on to longest.
+//! - `fallbacker`: [`LocaleFallbacker`], the tables that walks go by, and views of them.
+//! - `iterator`: [`LocaleFallbackIterator`], the walk and its rules.
+//! - `laws`: when a walk ends or repeats, and what rows have for faults.
+//! - `normal`: the locale that a walk begins with.
+//! - `provider`: the tables as a fallbacker holds them.
+//! - `rows`: [`FallbackRows`] and [`TableError`], the rows that tables are made from.
+//! - `table`, `triple`: a table, and the language, script and region that are its key.
 #![tactic(auto)]
 
-/// The priority of a walk.
 mod config;
-/// The tables that walks go by, and views of them.
 mod fallbacker;
-/// The walk, and its rules.
 mod iterator;
-/// Laws of the walk, and of the rows.
 pub mod laws;
-/// The locale that a walk begins with.
 mod normal;
-/// The tables, as a fallbacker holds them.
 pub mod provider;
-/// The rows that tables are made from.
 mod rows;
-/// A table.
 mod table;
-/// The key of each table.
 mod triple;
 
 pub use config::{LocaleFallbackConfig, LocaleFallbackPriority};
 pub use fallbacker::{LocaleFallbacker, LocaleFallbackerBorrowed, LocaleFallbackerWithConfig};
 pub use iterator::LocaleFallbackIterator;
 pub use rows::{FallbackRows, TableError};
-
-#[cfg(test)]
-mod tests;

@@ -80,7 +80,8 @@ fn but_default(script: &Option<Script>, default: &Option<Script>) -> Option<Scri
     if script == default { None } else { *script }
 }
 
-/// Whether the region's text, in lower case, begins the subdivision, which stands for no whole region.
+/// Whether the region's text, in lower case, begins the subdivision, which stands for no whole
+/// region.
 fn belongs(subdivision: &Subtag, region: &Region) -> bool
     ensures { result ≡ belongs subdivision.now region.now }
 {
@@ -89,6 +90,7 @@ fn belongs(subdivision: &Subtag, region: &Region) -> bool
     begins_in_lowercase(subdivision, region) && !subdivision.ends_with(b"zzzz")
 }
 
+/// Whether the front, in lower case, begins the text.
 fn begins_in_lowercase(text: &[u8], front: &[u8]) -> bool
     ensures { result ≡ starts_with nat_eq text.now (map to_ascii_lowercase front.now) }
 {

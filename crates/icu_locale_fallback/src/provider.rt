@@ -28,8 +28,8 @@ impl Model for Likely {
     ghost inverse = { λ l. record { script = l.script; region = l.region } };
 }
 
-/// The likely subtags: of a language, of a language and a script, of a language and a region (UTS 35, Part 1,
-/// section 4.3, Likely Subtags).
+/// The likely subtags: of a language, of a language and a script, of a language and a region
+/// (UTS 35, likely subtags).
 #[derive(Drop)]
 pub struct LikelySubtagsForLanguage {
     language: Table<Likely>,
@@ -130,7 +130,7 @@ impl LikelySubtagsForLanguage {
     }
 }
 
-/// The parents of locales (UTS 35, Part 1, section 4.1.3, Parent Locales).
+/// The parents of locales (UTS 35, parent locales).
 #[derive(Drop)]
 pub struct Parents {
     rows: Table<Triple>,

@@ -1,7 +1,7 @@
 ghost use Rattle.std.specs.Prelude.{MatchOption};
 ghost use Rattle.std.specs.Option.{SomeIff};
 ghost use Rattle.icu_locale_core.specs.Shapes.{IsLanguage, IsRegion, IsScript};
-ghost use Rattle.writeable.specs.declared.text.TextRow.{TextRow};
+ghost use Rattle.writeable_core.specs.declared.text.TextRow.{TextRow};
 ghost use Rattle.icu_locale_fallback.specs.Cells.{PrintsAs, PrintsNone};
 ghost use Rattle.icu_locale_fallback.specs.Rows.{ChildKey, LanguageKey, LanguageRegionKey, LanguageScriptKey, LikelyValue, ParentValue, RegionValue, ScriptValue};
 ghost use Rattle.icu_locale_fallback.specs.Triple.{Triple as TripleOf};
@@ -10,7 +10,7 @@ use crate::provider::Likely;
 use crate::triple::Triple;
 use icu_locale_core::{DataLocale, Language, Region, Script};
 use thiserror::Error;
-use writeable::{OwnedText, TextRow};
+use writeable_core::{OwnedText, TextRow};
 
 /// The tables of a fallbacker as rows of texts. Table and row are numbered from 0.
 #[derive(Drop)]

@@ -8,7 +8,7 @@ use crate::triple::Triple;
 use std::alloc::{AllocError, Global};
 use std::collections::BTreeMap;
 use std::marker::Model;
-use writeable::TextRow;
+use writeable_core::TextRow;
 
 /// Values by the subtags that they are for.
 #[derive(Drop)]
@@ -27,7 +27,8 @@ impl<V> Model for Table<V> {
 
     ghost view = { λ a. map.from_entries a.rows.entries };
 
-    ghost invariant = { λ a. map.len (map.from_entries {R = triple_cmp} a.rows.entries) ≡ length a.rows.entries };
+    ghost invariant = { λ a. map.len (map.from_entries {R = triple_cmp} a.rows.entries)
+        ≡ length a.rows.entries };
 }
 
 impl<V: Copy> Table<V> {

@@ -6,7 +6,7 @@ use std::io::{BufWriter, ErrorKind, Write};
 use std::process::ExitCode;
 use std::rt::Env;
 use std::{env, io};
-use writeable::{StdSink, StdSource};
+use writeable_sinks::{StdSink, StdSource};
 
 /// How much output is gathered before it is written.
 const BUFFER: usize = 65_536;

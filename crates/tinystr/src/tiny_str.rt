@@ -18,8 +18,8 @@ use std::{fmt, str};
 
 /// An ASCII text without NUL, of at most `N` bytes. Contracts see the text.
 ///
-/// It is meant for N from 1 to 8. The bytes that the text leaves are NUL, so the value is no larger than its text
-/// may be.
+/// It is meant for N from 1 to 8. The bytes that the text leaves are NUL, so the value is no
+/// larger than its text may be.
 #[derive(Clone, Copy)]
 pub struct TinyStr<const N: usize> {
     bytes: [u8; N],
@@ -42,12 +42,14 @@ impl<const N: usize> Model for TinyStr<N> {
 }
 
 impl<const N: usize> TinyStr<N> {
-    /// The text of these bytes. Where several causes hold, the answer is the first in the order of `TinyError`.
+    /// The text of these bytes. Where several causes hold, the answer is the first in the order
+    /// of `TinyError`.
     pub fn try_from_bytes(bytes: &[u8]) -> Result<Self, TinyError>
         ensures ok { IfOk result (λ text. text ≡ bytes.now) }
         ensures variant { IsOk result ↔ IsTinyText N bytes.now }
         ensures too_large { (result ≡ Err TinyError.TooLarge) ↔ (N < length bytes.now) }
-        ensures non_ascii { (result ≡ Err TinyError.NonAscii) ↔ ((length bytes.now ≤ N) × IsNotAscii bytes.now) }
+        ensures non_ascii { (result ≡ Err TinyError.NonAscii)
+            ↔ ((length bytes.now ≤ N) × IsNotAscii bytes.now) }
         ensures contains_null { (result ≡ Err TinyError.ContainsNull)
             ↔ ((length bytes.now ≤ N) × IsAscii bytes.now × Contains bytes.now 0) }
     {

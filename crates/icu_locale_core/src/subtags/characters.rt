@@ -4,25 +4,28 @@ ghost use Rattle.std.specs.Char.{is_ascii_digit, is_ascii_lowercase, is_ascii_up
 ghost use Rattle.std.specs.List.{list_all};
 ghost use Rattle.icu_locale_core.specs.Shapes.{is_small};
 
+/// Small letters.
 pub(super) fn are_lowercase(text: &[u8]) -> bool
     ensures { result ≡ list_all is_ascii_lowercase text.now }
 {
     text.iter().all(u8::is_ascii_lowercase)
 }
 
+/// Capitals.
 pub(super) fn are_uppercase(text: &[u8]) -> bool
     ensures { result ≡ list_all is_ascii_uppercase text.now }
 {
     text.iter().all(u8::is_ascii_uppercase)
 }
 
+/// Digits.
 pub(super) fn are_digits(text: &[u8]) -> bool
     ensures { result ≡ list_all is_ascii_digit text.now }
 {
     text.iter().all(u8::is_ascii_digit)
 }
 
-/// Letters in lower case and digits.
+/// Small letters and digits.
 pub(super) fn are_small(text: &[u8]) -> bool
     ensures { result ≡ list_all is_small text.now }
 {

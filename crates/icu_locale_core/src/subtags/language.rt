@@ -1,4 +1,4 @@
-ghost use Rattle.std.specs.Prelude.{◌≡◌, Some, codes};
+ghost use Rattle.std.specs.Prelude.{◌≡◌, ◌↔◌, IsTrue, Some, codes};
 ghost use Rattle.std.specs.Result.{OkIff};
 ghost use Rattle.std.specs.Str.{chars};
 ghost use Rattle.icu_locale_core.specs.Shapes.{IsLanguage, is_language};
@@ -39,8 +39,15 @@ impl Language {
         }
     }
 
+    /// Whether it is `und`.
+    pub fn is_unknown(&self) -> bool
+        ensures { IsTrue result ↔ (self.now ≡ codes "und") }
+    {
+        self.as_str() == "und"
+    }
+
     /// The subtag of this text, which must be in canonical case.
-    #[tactic(auto, using(crate::proofs::ShapeLemmas::tiny_language))]
+    #[tactic(auto, using(crate::specs::ShapeLaws::tiny_language))]
     pub fn try_from_str(text: &str) -> Result<Language, LocaleError>
         ensures { OkIff result (IsLanguage text.now) text.now }
     {
@@ -71,6 +78,7 @@ impl fmt::Display for Language {
     }
 }
 
+/// Two or three small letters.
 fn is_language(text: &[u8]) -> bool
     ensures { result ≡ is_language text.now }
 {

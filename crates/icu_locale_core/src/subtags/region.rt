@@ -30,7 +30,7 @@ impl Model for Region {
 
 impl Region {
     /// The subtag of this text, which must be in canonical case.
-    #[tactic(auto, using(crate::proofs::ShapeLemmas::tiny_region))]
+    #[tactic(auto, using(crate::specs::ShapeLaws::tiny_region))]
     pub fn try_from_str(text: &str) -> Result<Region, LocaleError>
         ensures { OkIff result (IsRegion text.now) text.now }
     {
@@ -61,6 +61,7 @@ impl fmt::Display for Region {
     }
 }
 
+/// Two capitals or three digits.
 fn is_region(text: &[u8]) -> bool
     ensures { result ≡ is_region text.now }
 {

@@ -30,7 +30,7 @@ impl Model for Script {
 
 impl Script {
     /// The subtag of this text, which must be in canonical case.
-    #[tactic(auto, using(crate::proofs::ShapeLemmas::tiny_script))]
+    #[tactic(auto, using(crate::specs::ShapeLaws::tiny_script))]
     pub fn try_from_str(text: &str) -> Result<Script, LocaleError>
         ensures { OkIff result (IsScript text.now) text.now }
     {
@@ -61,6 +61,7 @@ impl fmt::Display for Script {
     }
 }
 
+/// A capital and three small letters.
 fn is_script(text: &[u8]) -> bool
     ensures { result ≡ is_script text.now }
 {

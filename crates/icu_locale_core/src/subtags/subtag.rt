@@ -30,7 +30,7 @@ impl Model for Subtag {
 
 impl Subtag {
     /// The subtag of this text, which must be in canonical case.
-    #[tactic(auto, using(crate::proofs::ShapeLemmas::tiny_subtag))]
+    #[tactic(auto, using(crate::specs::ShapeLaws::tiny_subtag))]
     pub fn try_from_str(text: &str) -> Result<Subtag, LocaleError>
         ensures { OkIff result (IsSubtag text.now) text.now }
     {
@@ -61,6 +61,7 @@ impl fmt::Display for Subtag {
     }
 }
 
+/// Two to eight small letters or digits.
 fn is_subtag(text: &[u8]) -> bool
     ensures { result ≡ is_subtag text.now }
 {

@@ -9,7 +9,8 @@ use std::fmt;
 use std::marker::Model;
 use tinystr::TinyStr;
 
-/// A variant: five to eight small letters or digits, or four of which the first is a digit, as `fonipa` or `1996`.
+/// A variant: five to eight small letters or digits, or four of which the first is a digit, as
+/// `fonipa` or `1996`.
 #[derive(Clone, Copy, Debug, PartialEq, Eq, PartialOrd, Ord, Hash)]
 pub struct Variant {
     text: TinyStr<8>,
@@ -30,7 +31,7 @@ impl Model for Variant {
 
 impl Variant {
     /// The subtag of this text, which must be in canonical case.
-    #[tactic(auto, using(crate::proofs::ShapeLemmas::tiny_variant))]
+    #[tactic(auto, using(crate::specs::ShapeLaws::tiny_variant))]
     pub fn try_from_str(text: &str) -> Result<Variant, LocaleError>
         ensures { OkIff result (IsVariant text.now) text.now }
     {
@@ -61,6 +62,7 @@ impl fmt::Display for Variant {
     }
 }
 
+/// Five to eight small letters or digits, or four of which the first is a digit.
 fn is_variant(text: &[u8]) -> bool
     ensures { result ≡ is_variant text.now }
 {
