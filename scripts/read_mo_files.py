@@ -20,6 +20,18 @@ COUNTS = [1, 2, 5, 11, 21]
 MOST_MESSAGES = 300
 
 
+# Labels that the WHATWG Encoding standard gives to windows-1252, as the program does; Python reads them as
+# ISO 8859-1 or ASCII.
+WINDOWS_1252 = ("iso-8859-1", "iso8859-1", "iso88591", "iso_8859-1", "latin1", "l1", "ascii", "us-ascii")
+
+
+def by_windows_1252(text):
+    """A text that Python read as ISO 8859-1, as it reads by windows-1252; five bytes stay control characters there."""
+    return "".join(
+        bytes([ord(c)]).decode("cp1252", errors="ignore") or c if "\x80" <= c <= "\x9f" else c for c in text
+    )
+
+
 def messages_of(catalog):
     """The forms of each key, from what Python keeps of a file."""
     forms = {}
@@ -54,6 +66,8 @@ def asked(path):
     except Exception:
         return [], ""
     messages = messages_of(translations._catalog)
+    if (translations.charset() or "").lower() in WINDOWS_1252:
+        messages = {by_windows_1252(key): [by_windows_1252(form) for form in forms] for key, forms in messages.items()}
     bound = bound_of("".join(messages.get("", [""])[:1]))
     requests, lines = [], []
     for key, forms in sorted(messages.items())[:MOST_MESSAGES]:
