@@ -1,12 +1,8 @@
 -- When two texts, two subtags and two locales are the same.
-use Rattle.std.specs.Prelude.{ℕ, Bool, ◌&&◌, List, Option, nat_eq}
+use Rattle.std.specs.Prelude.{ℕ, Bool, ◌&&◌, List, Option}
 use Rattle.std.specs.Option.{option_eq}
-use Rattle.std.specs.Cmp.Lexicographic.{pointwise}
+pub use Rattle.writeable_core.specs.Texts.{same_text}
 use Rattle.icu_locale_core.specs.Locale.{Locale}
-
--- one text
-abbrev pub same_text : List ℕ → List ℕ → Bool
-same_text = pointwise nat_eq
 
 -- one subtag, or none in either place
 abbrev pub same_subtag : Option (List ℕ) → Option (List ℕ) → Bool
