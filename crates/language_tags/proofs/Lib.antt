@@ -1,2 +1,4 @@
 mod Cases
 mod PieceLaws
+mod Flat
+mod Holds

@@ -85,7 +85,7 @@ ends_at ends (Extlangs (suc k)) n =
 ends_at ends Script n = record ends { script = n; region = n; variant = n; extension = n }
 ends_at ends Region n = record ends { region = n; variant = n; extension = n }
 ends_at ends Variant n = record ends { variant = n; extension = n }
-ends_at ends Singleton n = ends
+ends_at ends Singleton n = record ends { extension = n }
 ends_at ends Extension n = record ends { extension = n }
 ends_at ends X n = ends
 ends_at ends Private n = ends

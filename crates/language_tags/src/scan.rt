@@ -77,11 +77,11 @@ fn ends_at(ends: Ends, stage: Stage, end: usize) -> Ends
             extension: end,
             ..ends
         },
-        Stage::Extension => Ends {
+        Stage::Singleton | Stage::Extension => Ends {
             extension: end,
             ..ends
         },
-        Stage::Start | Stage::Singleton | Stage::X | Stage::Private => ends,
+        Stage::Start | Stage::X | Stage::Private => ends,
     }
 }
 
