@@ -2,3 +2,4 @@ mod Cases
 mod PieceLaws
 mod Flat
 mod Holds
+mod Forward
