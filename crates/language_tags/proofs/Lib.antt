@@ -3,3 +3,4 @@ mod PieceLaws
 mod Flat
 mod Holds
 mod Forward
+mod Runs
