@@ -4,3 +4,5 @@ mod Flat
 mod Holds
 mod Forward
 mod Runs
+mod PartsLaws
+mod Grammar

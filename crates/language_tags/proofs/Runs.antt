@@ -34,7 +34,7 @@ passes_both a b c d s f g h ps qs p q = record {
   runs = λ rest. ap (run s f) (append_assoc ps qs rest) ∙ p.runs (qs ++ rest) ∙ q.runs rest;
 }
 
-pass_nothing : (low high : ℕ) (s : Stage) (f g : Flat) → low ≤ rank s → rank s ≤ high → f ≡ g → Passes low high s f [] g
+pub pass_nothing : (low high : ℕ) (s : Stage) (f g : Flat) → low ≤ rank s → rank s ≤ high → f ≡ g → Passes low high s f [] g
 pass_nothing low high s f g a b e = record { stage = s; above = a; below = b; runs = λ rest. ap (λ h. run s h rest) e }
 
 pass_one : (low high : ℕ) (s next : Stage) (f : Flat) (x : List ℕ) → stage_after s x ≡ Ok next → low ≤ rank next
@@ -43,7 +43,7 @@ pass_one low high s next f x e a b =
     record { stage = next; above = a; below = b; runs = λ rest. run_step s next f x rest e }
 
 -- one piece, and then others
-pass_more : (low high : ℕ) (s next : Stage) (f : Flat) (x : List ℕ) (ps : List (List ℕ)) (g : Flat) → stage_after s x ≡ Ok next
+pub pass_more : (low high : ℕ) (s next : Stage) (f : Flat) (x : List ℕ) (ps : List (List ℕ)) (g : Flat) → stage_after s x ≡ Ok next
     → Passes low high next (grown next f x) ps g → Passes low high s f (x ∷ ps) g
 pass_more low high s next f x ps g e p = record {
   stage = p.stage;
