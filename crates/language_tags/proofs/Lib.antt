@@ -6,3 +6,4 @@ mod Forward
 mod Runs
 mod PartsLaws
 mod Grammar
+mod Faults
