@@ -6,3 +6,5 @@ pub mod TagOf
 pub mod Begun
 pub mod TagFault
 pub mod Scan
+pub mod Kept
+pub mod Case

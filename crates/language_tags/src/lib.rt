@@ -1,12 +1,15 @@
 //! Language tags of BCP 47.
 #![tactic(auto)]
 
+mod case;
 mod characters;
 mod ends;
 mod error;
 mod scan;
 mod stage;
 mod subtags;
+mod tag;
 
 pub use error::ParseError;
 pub use subtags::SubtagsIter;
+pub use tag::LanguageTag;
