@@ -7,3 +7,4 @@ mod Runs
 mod PartsLaws
 mod Grammar
 mod Faults
+mod KeptLaws
