@@ -167,22 +167,22 @@ between-middle a b c from to e g =
     ap (take (to - from)) (drop_at a (b ++ c) from (sym e)) ∙ take_at b c (to - from) (omega arith)
 
 module _ (p : Parts) where
-  abbrev E : List ℕ
+  abbrev pub E : List ℕ
   E = dashed p.extlangs
 
-  abbrev S : List ℕ
+  abbrev pub S : List ℕ
   S = dashed (at_most_one p.script)
 
-  abbrev R : List ℕ
+  abbrev pub R : List ℕ
   R = dashed (at_most_one p.region)
 
-  abbrev V : List ℕ
+  abbrev pub V : List ℕ
   V = dashed p.variants
 
-  abbrev X : List ℕ
+  abbrev pub X : List ℕ
   X = dashed (flat_map extension_pieces p.extensions)
 
-  abbrev P : List ℕ
+  abbrev pub P : List ℕ
   P = dashed (private_pieces p.private)
 
   -- the text, part by part

@@ -8,3 +8,4 @@ mod PartsLaws
 mod Grammar
 mod Faults
 mod KeptLaws
+mod CaseLaws
