@@ -42,15 +42,15 @@ uppercase-lowercase [] = refl
 uppercase-lowercase (c ∷ t) = λ i. upper-lowercase c i ∷ uppercase-lowercase t i
 
 -- the parts in lower case
-abbrev small : Parts → Parts
+abbrev pub small : Parts → Parts
 small p = record p { script = option_map lowercase p.script; region = option_map lowercase p.region }
 
-length-one : (o : Option (List ℕ)) → length (dashed (at_most_one (option_map lowercase o))) ≡ length (dashed (at_most_one o))
+pub length-one : (o : Option (List ℕ)) → length (dashed (at_most_one (option_map lowercase o))) ≡ length (dashed (at_most_one o))
 length-one None = refl
 length-one (Some x) =
     omega (arith, length-append (lowercase x) [], length-append x [], length-map x to_ascii_lowercase)
 
-small-ends : (p : Parts) (ends : Ends) → EndAt p ends → EndAt (small p) ends
+pub small-ends : (p : Parts) (ends : Ends) → EndAt p ends → EndAt (small p) ends
 small-ends p ends at = record {
   language = at.language;
   extlang = at.extlang;

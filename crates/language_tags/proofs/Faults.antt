@@ -165,7 +165,7 @@ module _ (s : Stage) (f : Flat) (x : List ℕ) (h : Holds s f) (reached : run St
   wrong ForbiddenChar c = absurd c
   wrong NoMemory c = absurd c
 
-no_bytes : (x : List ℕ) → length x ≡ 0 → x ≡ []
+pub no_bytes : (x : List ℕ) → length x ≡ 0 → x ≡ []
 no_bytes [] e = refl
 no_bytes (c ∷ x) e = absurd (omega arith)
 

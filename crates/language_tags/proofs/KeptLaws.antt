@@ -71,7 +71,7 @@ part_pieces-dashed (x ∷ ps) h =
 small-clean : (c : ℕ) → is_small c ≡ true → is_ascii_alphanumeric c ≡ true
 small-clean c e = grind (arith, nat_tests)
 
-smalls-clean : (x : List ℕ) → list_all is_small x ≡ true → IsClean x
+pub smalls-clean : (x : List ℕ) → list_all is_small x ≡ true → IsClean x
 smalls-clean = all-weaker is_small is_ascii_alphanumeric small-clean
 
 upper-clean : (c : ℕ) → is_ascii_uppercase c ≡ true → is_ascii_alphanumeric c ≡ true
@@ -84,32 +84,32 @@ digit-clean : (c : ℕ) → is_ascii_digit c ≡ true → is_ascii_alphanumeric 
 digit-clean c e = grind (arith, nat_tests)
 
 module _ (test : List ℕ → Bool) (clean : (x : List ℕ) → test x ≡ true → IsClean x) where
-  each-clean : (ps : List (List ℕ)) → list_all test ps ≡ true → AreClean ps
+  pub each-clean : (ps : List (List ℕ)) → list_all test ps ≡ true → AreClean ps
   each-clean [] e = refl
   each-clean (x ∷ ps) e =
       let head : test x ≡ true = grind (arith, nat_tests) in
       let tail : list_all test ps ≡ true = grind (arith, nat_tests) in
       λ i. clean x head i && each-clean ps tail i
 
-  one-clean : (o : Option (List ℕ)) → IfSome o (λ x. IsTrue (test x)) → AreClean (at_most_one o)
+  pub one-clean : (o : Option (List ℕ)) → IfSome o (λ x. IsTrue (test x)) → AreClean (at_most_one o)
   one-clean None h = refl
   one-clean (Some x) h = λ i. clean x h i && true
 
-clean-append : (ps qs : List (List ℕ)) → AreClean ps → AreClean qs → AreClean (ps ++ qs)
+pub clean-append : (ps qs : List (List ℕ)) → AreClean ps → AreClean qs → AreClean (ps ++ qs)
 clean-append [] qs e h = h
 clean-append (x ∷ ps) qs e h =
     let head : IsClean x = grind (arith, nat_tests) in
     let tail : AreClean ps = grind (arith, nat_tests) in
     λ i. head i && clean-append ps qs tail h i
 
-script-clean : (x : List ℕ) → is_script x ≡ true → IsClean x
+pub script-clean : (x : List ℕ) → is_script x ≡ true → IsClean x
 script-clean [] e = refl
 script-clean (c ∷ x) e =
     let first : is_ascii_uppercase c ≡ true = grind (arith, nat_tests) in
     let rest : list_all is_ascii_lowercase x ≡ true = grind (arith, nat_tests) in
     λ i. upper-clean c first i && all-weaker is_ascii_lowercase is_ascii_alphanumeric lower-clean x rest i
 
-region-clean : (x : List ℕ) → is_region x ≡ true → IsClean x
+pub region-clean : (x : List ℕ) → is_region x ≡ true → IsClean x
 region-clean x e = by (length x == 2) (list_all is_ascii_uppercase x) (length x == 3) (list_all is_ascii_digit x) refl refl e
   where
     by : (a b c d : Bool) → list_all is_ascii_uppercase x ≡ b → list_all is_ascii_digit x ≡ d
@@ -196,35 +196,35 @@ module _ (p : Parts) where
       ∙ ap (λ t. V ++ t) (dashed-append (flat_map extension_pieces p.extensions) (private_pieces p.private))))))
 
   module _ (ends : Ends) (at : EndAt p ends) where
-    abbrev T : List ℕ
+    abbrev pub T : List ℕ
     T = p.language ++ (E ++ (S ++ (R ++ (V ++ (X ++ P)))))
 
-    at-language : take ends.language T ≡ p.language
+    pub at-language : take ends.language T ≡ p.language
     at-language = take_at p.language _ ends.language (sym at.language)
 
-    at-extlangs : between ends.language ends.extlang T ≡ E
+    pub at-extlangs : between ends.language ends.extlang T ≡ E
     at-extlangs = between-middle p.language E _ ends.language ends.extlang at.language at.extlang
 
-    at-script : between ends.extlang ends.script T ≡ S
+    pub at-script : between ends.extlang ends.script T ≡ S
     at-script =
         ap (between ends.extlang ends.script) (sym (append_assoc p.language E (S ++ (R ++ (V ++ (X ++ P))))))
         ∙ between-middle (p.language ++ E) S (R ++ (V ++ (X ++ P))) ends.extlang ends.script
         (omega (arith, at.language, at.extlang, length-append p.language E)) at.script
 
-    at-region : between ends.script ends.region T ≡ R
+    pub at-region : between ends.script ends.region T ≡ R
     at-region =
         ap (between ends.script ends.region) (simp append_assoc)
         ∙ between-middle ((p.language ++ E) ++ S) R (V ++ (X ++ P)) ends.script ends.region
         (omega (arith, at.language, at.extlang, at.script, length-append p.language E, length-append (p.language ++ E) S)) at.region
 
-    at-variants : between ends.region ends.variant T ≡ V
+    pub at-variants : between ends.region ends.variant T ≡ V
     at-variants =
         ap (between ends.region ends.variant) (simp append_assoc)
         ∙ between-middle (((p.language ++ E) ++ S) ++ R) V (X ++ P) ends.region ends.variant
         (omega (arith, at.language, at.extlang, at.script, at.region, length-append p.language E,
         length-append (p.language ++ E) S, length-append ((p.language ++ E) ++ S) R)) at.variant
 
-    at-extensions : between ends.variant ends.extension T ≡ X
+    pub at-extensions : between ends.variant ends.extension T ≡ X
     at-extensions =
         ap (between ends.variant ends.extension) (simp append_assoc)
         ∙ between-middle ((((p.language ++ E) ++ S) ++ R) ++ V) X P ends.variant ends.extension
@@ -232,7 +232,7 @@ module _ (p : Parts) where
         length-append (p.language ++ E) S, length-append ((p.language ++ E) ++ S) R,
         length-append (((p.language ++ E) ++ S) ++ R) V)) at.extension
 
-    at-private : drop ends.extension T ≡ P
+    pub at-private : drop ends.extension T ≡ P
     at-private =
         ap (drop ends.extension) (simp append_assoc)
         ∙ drop_at (((((p.language ++ E) ++ S) ++ R) ++ V) ++ X) P ends.extension
@@ -280,14 +280,14 @@ module _ (p : Parts) where
 alphanumeric-ascii : (c : ℕ) → is_ascii_alphanumeric c ≡ true → c < 128
 alphanumeric-ascii c e = grind (arith, nat_tests)
 
-clean-ascii : (x : List ℕ) → IsClean x → IsAscii x
+pub clean-ascii : (x : List ℕ) → IsClean x → IsAscii x
 clean-ascii [] e = IsAscii-nil
 clean-ascii (c ∷ x) e =
     let head : is_ascii_alphanumeric c ≡ true = grind (arith, nat_tests) in
     let tail : IsClean x = grind (arith, nat_tests) in
     IsAscii-cons c x (alphanumeric-ascii c head) (clean-ascii x tail)
 
-dashed-ascii : (ps : List (List ℕ)) → AreClean ps → IsAscii (dashed ps)
+pub dashed-ascii : (ps : List (List ℕ)) → AreClean ps → IsAscii (dashed ps)
 dashed-ascii [] h = IsAscii-nil
 dashed-ascii (x ∷ ps) h =
     let head : IsClean x = grind (arith, nat_tests) in

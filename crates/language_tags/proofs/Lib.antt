@@ -9,3 +9,7 @@ mod Grammar
 mod Faults
 mod KeptLaws
 mod CaseLaws
+mod PrivateLaws
+mod FindLaws
+mod PartLaws
+mod KeptUse

@@ -38,7 +38,7 @@ length-dashed_onto : (c : ℕ) (ps : List (List ℕ)) → 0 < length ps
 length-dashed_onto c [] h = absurd (omega arith)
 length-dashed_onto c (p ∷ ps) h = omega arith
 
-some_piece : (text : List ℕ) → 0 < length (pieces text)
+pub some_piece : (text : List ℕ) → 0 < length (pieces text)
 some_piece [] = omega arith
 some_piece (c ∷ text) = by (is_dash c) (pieces text) (some_piece text)
   where

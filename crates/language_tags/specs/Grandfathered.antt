@@ -1,7 +1,8 @@
 -- The grandfathered tags: RFC 5646, section 2.1, `irregular` and `regular`.
-use Rattle.std.specs.Prelude.{ℕ, List, [], ◌∷◌, Option, codes}
+use Rattle.std.specs.Prelude.{ℕ, Bool, ◌&&◌, ◌||◌, ◌==◌, List, [], ◌∷◌, Option, codes, length, slice_index}
+use Rattle.std.specs.Int.{is_in_range}
 use Rattle.std.specs.List.{find}
-use Rattle.std.specs.Str.{bytes_eq}
+use Rattle.std.specs.Str.{byte, bytes_eq}
 use Rattle.language_tags.specs.Pieces.{lowercase}
 
 abbrev pub grandfathereds : List (List ℕ)
@@ -16,3 +17,11 @@ grandfathereds =
 -- the grandfathered tag that a text is without its case
 abbrev pub grandfathered : List ℕ → Option (List ℕ)
 grandfathered text = find (λ tag. bytes_eq (lowercase tag) (lowercase text)) grandfathereds
+
+-- the length and the first letter of a grandfathered tag in lower case
+abbrev pub may_be_grandfathered : List ℕ → Bool
+may_be_grandfathered text =
+    let first = slice_index text 0 in
+    is_in_range 5 11 (length text)
+    && (first == byte "a" || first == byte "c" || first == byte "e" || first == byte "i" || first == byte "n" || first == byte "s"
+    || first == byte "z")

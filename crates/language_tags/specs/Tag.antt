@@ -1,8 +1,8 @@
 -- What a tag is (RFC 5646, section 2.1), and its text.
-use Rattle.std.specs.Prelude.{ℕ, List, [], ◌∷◌, ◌++◌, Option, Some, None}
-use Rattle.std.specs.List.{flat_map}
+use Rattle.std.specs.Prelude.{ℕ, List, [], ◌∷◌, ◌++◌, Option, Some, None, codes, drop, nat_eq, if◌then◌else◌}
+use Rattle.std.specs.List.{flat_map, starts_with}
 use Rattle.std.specs.Str.{byte}
-use Rattle.language_tags.specs.Pieces.{joined}
+use Rattle.language_tags.specs.Pieces.{joined, pieces}
 
 -- an extension: its singleton, and the pieces behind it
 pub record Extension : Type 0 where
@@ -49,3 +49,42 @@ written p = p.language ∷ behind_language p
 abbrev pub print : Tag → List ℕ
 print (Whole text) = text
 print (Plain p) = joined (written p)
+
+-- what a tag has of each part; a whole text is its own language
+abbrev pub language_of : Tag → List ℕ
+language_of (Whole text) = text
+language_of (Plain p) = p.language
+
+abbrev pub full_language_of : Tag → List ℕ
+full_language_of (Whole text) = text
+full_language_of (Plain p) = joined (p.language ∷ p.extlangs)
+
+abbrev pub extlangs_of : Tag → List (List ℕ)
+extlangs_of (Whole text) = []
+extlangs_of (Plain p) = p.extlangs
+
+abbrev pub script_of : Tag → Option (List ℕ)
+script_of (Whole text) = None
+script_of (Plain p) = p.script
+
+abbrev pub region_of : Tag → Option (List ℕ)
+region_of (Whole text) = None
+region_of (Plain p) = p.region
+
+abbrev pub variants_of : Tag → List (List ℕ)
+variants_of (Whole text) = []
+variants_of (Plain p) = p.variants
+
+abbrev pub extensions_of : Tag → List Extension
+extensions_of (Whole text) = []
+extensions_of (Plain p) = p.extensions
+
+-- the pieces behind the x; a whole text has some where it begins with `x-`
+abbrev pub private_of : Tag → List (List ℕ)
+private_of (Whole text) = if starts_with nat_eq text (codes "x-") then pieces (drop 2 text) else []
+private_of (Plain p) = p.private
+
+-- the tag up to its variants
+abbrev pub front_of : Tag → List ℕ
+front_of (Whole text) = text
+front_of (Plain p) = joined (p.language ∷ (p.extlangs ++ (at_most_one p.script ++ (at_most_one p.region ++ p.variants))))

@@ -5,11 +5,15 @@ mod case;
 mod characters;
 mod ends;
 mod error;
+mod grandfathered;
+mod part;
+mod private_use;
 mod scan;
 mod stage;
 mod subtags;
 mod tag;
 
 pub use error::ParseError;
+pub use grandfathered::GRANDFATHEREDS;
 pub use subtags::SubtagsIter;
 pub use tag::LanguageTag;

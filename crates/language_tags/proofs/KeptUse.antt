@@ -1,0 +1,195 @@
+-- What a kept tag says of its parts.
+use Rattle.std.proofs.Common.{◌≡◌, ℕ, ◌+◌, ◌≤◌, List, [], ◌∷◌, ◌++◌, Option, Some, None, MatchResult, Ok, length, take, refl, sym, ap, ◌∙◌, arith, append_assoc, length-append, subst, map}
+use Rattle.std.specs.Prelude.{◌&&◌}
+use Rattle.std.proofs.lemmas.Bool.Decides.{nat_tests}
+use Rattle.std.specs.List.{flat_map, list_all}
+use Rattle.std.specs.Str.{IsAscii, IsUtf8, chars}
+use Rattle.std.proofs.lemmas.List.{length-map, take_at}
+use Rattle.std.proofs.lemmas.Str.{IsUtf8-from_ascii, chars-IsAscii}
+use Rattle.std.specs.Char.{is_ascii_alphanumeric, to_ascii_lowercase}
+use Rattle.language_tags.specs.Case.{in_case}
+use Rattle.language_tags.specs.Kept.{EndAt, IsKept, KeepsParts, between, parts_at, tag_at}
+use Rattle.language_tags.specs.Pieces.{dashed, joined, lowercase, part_text, pieces, pieces_of}
+use Rattle.language_tags.specs.Scan.{scanned}
+use Rattle.language_tags.specs.Shapes.{AreParts, is_extlang, is_variant}
+use Rattle.language_tags.specs.Tag.{Parts, Tag, Whole, Plain, at_most_one, extension_pieces, extensions_of, extlangs_of, front_of, full_language_of, language_of, print, region_of, script_of, variants_of, written}
+use Rattle.language_tags.specs.TagFault.{IsFaultOfPieces}
+use Rattle.language_tags.specs.declared.ends.Ends.{Ends}
+use Rattle.language_tags.proofs.CaseLaws.{in_case-parts, length-one, scanned-ends, scanned-text, small, small-ends}
+use Rattle.language_tags.proofs.Faults.{Scanned, scanned_law}
+use Rattle.language_tags.proofs.KeptLaws.{AreClean, E, IsClean, P, R, S, T, V, X, at-extensions, at-extlangs, at-language, at-region, at-script, at-variants, dashed-append, each-clean, joined-dashed, keeps, parts_at-text, pieces-dashed, print-ascii, smalls-clean, text-parts}
+use Rattle.language_tags.proofs.PartsLaws.{extlang-small, variant-small, written-lowercase}
+use Rattle.language_tags.proofs.PieceLaws.{some_piece}
+
+module _ (o : Option Ends) (text t : List ℕ) (ends : Ends) (g : Tag) (inv : IsKept o text) (is : o ≡ Some ends) (same : t ≡ text)
+    (view : tag_at o text ≡ g) where
+  abbrev p : Parts
+  p = parts_at ends text
+
+  kept : KeepsParts text ends p
+  kept = subst (λ q. IsKept q text) is inv
+
+  tag_is : Plain p ≡ g
+  tag_is = ap (λ q. tag_at q text) (sym is) ∙ view
+
+  text_is : t ≡ T p ends kept.ends_are
+  text_is = same ∙ kept.text_is ∙ text-parts p
+
+  pub kept-ascii : IsAscii t
+  kept-ascii = subst IsAscii (sym (same ∙ kept.text_is)) (print-ascii p kept.shapes)
+
+  pub kept-within : ends.extension ≤ length t
+  kept-within =
+      let at = kept.ends_are in
+      omega (arith, ap length text_is, at.language, at.extlang, at.script, at.region, at.variant, at.extension,
+      length-append p.language (E p ++ (S p ++ (R p ++ (V p ++ (X p ++ P p))))),
+      length-append (E p) (S p ++ (R p ++ (V p ++ (X p ++ P p)))), length-append (S p) (R p ++ (V p ++ (X p ++ P p))),
+      length-append (R p) (V p ++ (X p ++ P p)), length-append (V p) (X p ++ P p), length-append (X p) (P p))
+
+  pub language-extlang : ends.language ≤ ends.extlang
+  language-extlang = omega (arith, kept.ends_are.extlang)
+
+  pub extlang-script : ends.extlang ≤ ends.script
+  extlang-script = omega (arith, kept.ends_are.script)
+
+  pub script-region : ends.script ≤ ends.region
+  script-region = omega (arith, kept.ends_are.region)
+
+  pub region-variant : ends.region ≤ ends.variant
+  region-variant = omega (arith, kept.ends_are.variant)
+
+  pub variant-extension : ends.variant ≤ ends.extension
+  variant-extension = omega (arith, kept.ends_are.extension)
+
+  pub language-text : take ends.language t ≡ language_of g
+  language-text = ap (take ends.language) text_is ∙ at-language p ends kept.ends_are ∙ ap language_of tag_is
+
+  pub full_language-text : take ends.extlang t ≡ full_language_of g
+  full_language-text =
+      let at = kept.ends_are in
+      ap (take ends.extlang) (text_is ∙ sym (append_assoc p.language (E p) (S p ++ (R p ++ (V p ++ (X p ++ P p))))))
+      ∙ take_at (p.language ++ E p) _ ends.extlang (sym (omega (arith, at.language, at.extlang, length-append p.language (E p))))
+      ∙ sym (joined-dashed p.language p.extlangs)
+      ∙ ap full_language_of tag_is
+
+  pub front-text : take ends.variant t ≡ front_of g
+  front-text =
+      let at = kept.ends_are in
+      ap (take ends.variant) (text_is ∙ regroup p.language (E p) (S p) (R p) (V p) (X p ++ P p))
+      ∙ take_at (p.language ++ (E p ++ (S p ++ (R p ++ V p)))) (X p ++ P p) ends.variant
+      (sym (omega (arith, at.language, at.extlang, at.script, at.region, at.variant, length-append p.language (E p ++ (S p ++ (R p ++ V p))),
+      length-append (E p) (S p ++ (R p ++ V p)), length-append (S p) (R p ++ V p), length-append (R p) (V p))))
+      ∙ sym (joined-dashed p.language (p.extlangs ++ (at_most_one p.script ++ (at_most_one p.region ++ p.variants)))
+      ∙ ap (λ q. p.language ++ q) (dashed-append p.extlangs (at_most_one p.script ++ (at_most_one p.region ++ p.variants))
+      ∙ ap (λ q. E p ++ q) (dashed-append (at_most_one p.script) (at_most_one p.region ++ p.variants)
+      ∙ ap (λ q. S p ++ q) (dashed-append (at_most_one p.region) p.variants))))
+      ∙ ap front_of tag_is
+    where
+      regroup : (a b c d e f : List ℕ) → a ++ (b ++ (c ++ (d ++ (e ++ f)))) ≡ (a ++ (b ++ (c ++ (d ++ e)))) ++ f
+      regroup a b c d e f = simp append_assoc
+
+  -- the text of a part, where it is that of the pieces between two places
+  module _ (r : Option (List ℕ)) where
+    pub extlangs-text : ((ps : List (List ℕ)) → between ends.language ends.extlang t ≡ dashed ps → r ≡ part_text ps)
+        → r ≡ part_text (extlangs_of g)
+    extlangs-text f =
+        f p.extlangs (ap (between ends.language ends.extlang) text_is ∙ at-extlangs p ends kept.ends_are)
+        ∙ ap (λ h. part_text (extlangs_of h)) tag_is
+
+    pub script-text : ((ps : List (List ℕ)) → between ends.extlang ends.script t ≡ dashed ps → r ≡ part_text ps)
+        → r ≡ part_text (at_most_one (script_of g))
+    script-text f =
+        f (at_most_one p.script) (ap (between ends.extlang ends.script) text_is ∙ at-script p ends kept.ends_are)
+        ∙ ap (λ h. part_text (at_most_one (script_of h))) tag_is
+
+    pub region-text : ((ps : List (List ℕ)) → between ends.script ends.region t ≡ dashed ps → r ≡ part_text ps)
+        → r ≡ part_text (at_most_one (region_of g))
+    region-text f =
+        f (at_most_one p.region) (ap (between ends.script ends.region) text_is ∙ at-region p ends kept.ends_are)
+        ∙ ap (λ h. part_text (at_most_one (region_of h))) tag_is
+
+    pub variants-text : ((ps : List (List ℕ)) → between ends.region ends.variant t ≡ dashed ps → r ≡ part_text ps)
+        → r ≡ part_text (variants_of g)
+    variants-text f =
+        f p.variants (ap (between ends.region ends.variant) text_is ∙ at-variants p ends kept.ends_are)
+        ∙ ap (λ h. part_text (variants_of h)) tag_is
+
+    pub extensions-text : ((ps : List (List ℕ)) → between ends.variant ends.extension t ≡ dashed ps → r ≡ part_text ps)
+        → r ≡ part_text (flat_map extension_pieces (extensions_of g))
+    extensions-text f =
+        f (flat_map extension_pieces p.extensions) (ap (between ends.variant ends.extension) text_is ∙ at-extensions p ends kept.ends_are)
+        ∙ ap (λ h. part_text (flat_map extension_pieces (extensions_of h))) tag_is
+
+-- ---- the text of a tag is ASCII
+
+pub kept-text : (o : Option Ends) (text t : List ℕ) → IsKept o text → t ≡ text → IsAscii t
+kept-text None text t h e = subst IsAscii (sym e) h
+kept-text (Some ends) text t h e = subst IsAscii (sym (e ∙ h.text_is)) (print-ascii (parts_at ends text) h.shapes)
+
+-- ---- pieces of parts
+
+pub pieces-part_text : (ps : List (List ℕ)) → AreClean ps → pieces_of (part_text ps) ≡ ps
+pieces-part_text [] h = refl
+pieces-part_text (x ∷ ps) h =
+    ap pieces (joined-dashed x ps) ∙ pieces-dashed x ps (head-clean x ps h) (tail-clean x ps h)
+  where
+    head-clean : (x : List ℕ) (ps : List (List ℕ)) → AreClean (x ∷ ps) → IsClean x
+    head-clean x ps h = grind (arith, nat_tests)
+    tail-clean : (x : List ℕ) (ps : List (List ℕ)) → AreClean (x ∷ ps) → AreClean ps
+    tail-clean x ps h = grind (arith, nat_tests)
+
+pub extlangs-clean : (o : Option Ends) (text : List ℕ) (g : Tag) → IsKept o text → tag_at o text ≡ g → AreClean (extlangs_of g)
+extlangs-clean None text g h e = ap (λ q. list_all (list_all is_ascii_alphanumeric) (extlangs_of q)) (sym e)
+extlangs-clean (Some ends) text g h e =
+    ap (λ q. list_all (list_all is_ascii_alphanumeric) (extlangs_of q)) (sym e)
+    ∙ each-clean is_extlang (λ x f. smalls-clean x (extlang-small x f)) (parts_at ends text).extlangs h.shapes.extlangs
+
+pub variants-clean : (o : Option Ends) (text : List ℕ) (g : Tag) → IsKept o text → tag_at o text ≡ g → AreClean (variants_of g)
+variants-clean None text g h e = ap (λ q. list_all (list_all is_ascii_alphanumeric) (variants_of q)) (sym e)
+variants-clean (Some ends) text g h e =
+    ap (λ q. list_all (list_all is_ascii_alphanumeric) (variants_of q)) (sym e)
+    ∙ each-clean is_variant (λ x f. smalls-clean x (variant-small x f)) (parts_at ends text).variants h.shapes.variants
+
+-- ---- a text that was scanned
+
+module _ (text : List ℕ) (ends : Ends) (is : scanned (pieces (lowercase text)) ≡ Ok ends) where
+  pub was_scanned : Scanned (pieces (lowercase text)) ends
+  was_scanned =
+      subst (λ q. MatchResult q (Scanned (pieces (lowercase text))) (IsFaultOfPieces (pieces (lowercase text)))) is
+      (scanned_law (pieces (lowercase text)) (some_piece (lowercase text)))
+
+  abbrev q : Parts
+  q = was_scanned.parts
+
+  ends_at : EndAt q ends
+  ends_at = scanned-ends text ends was_scanned
+
+  pub scanned-script : ends.extlang ≤ ends.script
+  scanned-script = omega (arith, ends_at.script)
+
+  pub scanned-region : ends.script ≤ ends.region
+  scanned-region = omega (arith, ends_at.region)
+
+  pub scanned-within : (t : List ℕ) → t ≡ text → ends.region ≤ length t
+  scanned-within t same =
+      let s = small q in
+      let at = small-ends q ends ends_at in
+      let all : lowercase text ≡ s.language ++ (E s ++ (S s ++ (R s ++ (V s ++ (X s ++ P s))))) =
+          scanned-text text ends was_scanned ∙ ap joined (written-lowercase q was_scanned.shapes) ∙ text-parts s in
+      omega (arith, ap length same, ap length all, length-map text to_ascii_lowercase, at.language, at.extlang, at.script, at.region,
+      length-append s.language (E s ++ (S s ++ (R s ++ (V s ++ (X s ++ P s))))),
+      length-append (E s) (S s ++ (R s ++ (V s ++ (X s ++ P s)))), length-append (S s) (R s ++ (V s ++ (X s ++ P s))),
+      length-append (R s) (V s ++ (X s ++ P s)))
+
+  pub scanned-case : (t cased : List ℕ) → t ≡ text → cased ≡ in_case ends t → cased ≡ joined (written q)
+  scanned-case t cased same e =
+      e ∙ ap (in_case ends) same ∙ in_case-parts q was_scanned.shapes ends ends_at text (scanned-text text ends was_scanned)
+
+  pub scanned-utf8 : (cased : List ℕ) → cased ≡ joined (written q) → IsUtf8 cased
+  scanned-utf8 cased e = IsUtf8-from_ascii cased (subst IsAscii (sym e) (print-ascii q was_scanned.shapes))
+
+  pub scanned-keeps : (kept : List ℕ) → kept ≡ joined (written q) → KeepsParts kept ends (parts_at ends kept)
+  scanned-keeps kept e = subst (λ t. KeepsParts t ends (parts_at ends t)) (sym e) (keeps q ends ends_at was_scanned.shapes)
+
+  pub scanned-parts : (kept : List ℕ) → kept ≡ joined (written q) → parts_at ends kept ≡ q
+  scanned-parts kept e = ap (parts_at ends) e ∙ parts_at-text q ends ends_at was_scanned.shapes
