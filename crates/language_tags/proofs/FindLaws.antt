@@ -51,7 +51,7 @@ not_found text h (g ∷ gs) e =
     by rest false other fits = rest
 
 pub not_grandfathered : (text : List ℕ) → may_be_grandfathered (lowercase text) ≡ false → grandfathered text ≡ None
-not_grandfathered text no = not_found text h grandfathereds refl
+not_grandfathered text h = not_found text h grandfathereds refl
 
 -- what is found passes what all do
 pub find-all : (p q : List ℕ → Bool) (gs : List (List ℕ)) (g : List ℕ) → find p gs ≡ Some g → list_all q gs ≡ true → q g ≡ true

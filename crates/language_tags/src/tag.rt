@@ -1,5 +1,5 @@
-ghost use Rattle.std.specs.Prelude.{◌≡◌, ◌≢◌, ℕ, List, IfOk, IfErr, string_bytes};
-ghost use Rattle.std.specs.List.{flat_map};
+ghost use Rattle.std.specs.Prelude.{◌≡◌, ◌≢◌, ℕ, List, IfOk, IfErr, IsTrue, string_bytes};
+ghost use Rattle.std.specs.List.{flat_map, list_all};
 
 use crate::case::{in_case, push_lowercase};
 use crate::ends::Ends;
@@ -39,29 +39,47 @@ impl LanguageTag {
     ghost use Rattle.language_tags.specs.Scan.{scanned};
     ghost use Rattle.language_tags.specs.Tag.{Parts, Whole, Plain, print};
     ghost use Rattle.language_tags.specs.Tag.{at_most_one, extension_pieces, extensions_of, extlangs_of, front_of, full_language_of, language_of, private_of, private_pieces, region_of, script_of, variants_of};
-    ghost use Rattle.language_tags.specs.TagFault.{IsFaultOf};
-    ghost use Rattle.language_tags.specs.TagOf.{IsLangtag, IsTagOf};
+    ghost use Rattle.language_tags.specs.TagFault.{IsFaultBehindX, IsFaultOf, IsFaultOfPieces};
+    ghost use Rattle.language_tags.specs.TagOf.{IsLangtag, IsTagOf, StandsBehindX};
+    ghost use Rattle.language_tags.specs.Shapes.{is_private};
 
     /// The tag that a text is.
     pub fn parse(alloc: Global, input: &str) -> Result<LanguageTag, ParseError>
         ensures ok { IfOk result (IsTagOf input.now) }
         ensures err { IfErr result (λ fault. fault ≢ ParseError.NoMemory → IsFaultOf input.now fault) }
     {
-        if let Some(tag) = grandfathered(input) {
-            return match LanguageTag::whole(alloc, tag) {
+        match grandfathered(input) {
+            Some(tag) => match LanguageTag::whole(alloc, tag) {
                 Ok(tag) => Ok(tag),
                 Err(_) => Err(ParseError::NoMemory),
-            };
+            },
+            None => match behind_x(input) {
+                Some(rest) => LanguageTag::private_tag(alloc, input, rest),
+                None => LanguageTag::langtag(alloc, input),
+            },
         }
-        if let Some(rest) = behind_x(input) {
-            check(rest)?;
-            return match LanguageTag::whole_in_lowercase(alloc, input) {
-                Ok(tag) => Ok(tag),
-                Err(_) => Err(ParseError::NoMemory),
-            };
+    }
+
+    /// The tag of a text that begins with `x-`, with `rest` behind it.
+    fn private_tag(alloc: Global, text: &str, rest: &str) -> Result<LanguageTag, ParseError>
+        requires { StandsBehindX (lowercase rest.now) text.now }
+        ensures ok { IfOk result (λ tag. IsTrue (list_all is_private (pieces (lowercase rest.now))) × (tag ≡ Whole (lowercase text.now))) }
+        ensures err { IfErr result (λ fault. fault ≢ ParseError.NoMemory → IsFaultBehindX (lowercase rest.now) fault) }
+    {
+        check(rest)?;
+        match LanguageTag::whole_in_lowercase(alloc, text) {
+            Ok(tag) => Ok(tag),
+            Err(_) => Err(ParseError::NoMemory),
         }
-        let ends = scan(input)?;
-        match LanguageTag::langtag(alloc, input, ends) {
+    }
+
+    /// The tag of any other text.
+    fn langtag(alloc: Global, text: &str) -> Result<LanguageTag, ParseError>
+        ensures ok { IfOk result (λ tag. (p : Parts) × IsLangtag text.now p × (tag ≡ Plain p)) }
+        ensures err { IfErr result (λ fault. fault ≢ ParseError.NoMemory → IsFaultOfPieces (pieces (lowercase text.now)) fault) }
+    {
+        let ends = scan(text)?;
+        match LanguageTag::with_ends(alloc, text, ends) {
             Ok(tag) => Ok(tag),
             Err(_) => Err(ParseError::NoMemory),
         }
@@ -90,7 +108,7 @@ impl LanguageTag {
     }
 
     /// The tag of a text whose parts end there.
-    fn langtag(alloc: Global, text: &str, ends: Ends) -> Result<LanguageTag, AllocError>
+    fn with_ends(alloc: Global, text: &str, ends: Ends) -> Result<LanguageTag, AllocError>
         requires { scanned (pieces (lowercase text.now)) ≡ Ok ends }
         ensures { IfOk result (λ tag. (p : Parts) × IsLangtag text.now p × (tag ≡ Plain p)) }
     {

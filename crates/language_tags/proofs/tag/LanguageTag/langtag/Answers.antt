@@ -1,33 +1,16 @@
-use Rattle.std.proofs.Common.{◌≡◌, ◌∙◌, ap, sym, string_bytes}
-use Rattle.language_tags.specs.Tag.{Plain, written}
-use Rattle.language_tags.specs.Pieces.{joined}
-use Rattle.language_tags.proofs.KeptUse.{scanned-case, scanned-keeps, scanned-parts, scanned-region, scanned-script, scanned-utf8, scanned-within, was_scanned}
+use Rattle.std.proofs.Common.{◌≡◌, sym, subst, MatchResult, Err, rules}
+use Rattle.std.proofs.lemmas.Result.{MatchResult-at_err, err_from_is_err_and}
+use Rattle.language_tags.specs.Pieces.{lowercase, pieces}
+use Rattle.language_tags.proofs.Faults.{Scanned, scanned_law}
+use Rattle.language_tags.specs.TagFault.{IsFaultOfPieces}
+use Rattle.language_tags.proofs.PieceLaws.{some_piece}
 use Rattle.language_tags.proofs.tag.LanguageTag.langtag.Goals as goal
 
-pub in_case-requires : goal.in_case-requires
-in_case-requires c = record {
-  script = scanned-script c.args.text.now c.args.ends c.requires;
-  region = scanned-region c.args.text.now c.args.ends c.requires;
-  within = scanned-within c.args.text.now c.args.ends c.requires c.as_bytes.result.now c.as_bytes.ensures.value;
-}
+pub with_ends-requires : goal.with_ends-requires
+with_ends-requires c = sym c.in_ok-ends.ensures
 
-pub from_utf8_unchecked-requires : goal.from_utf8_unchecked-requires
-from_utf8_unchecked-requires c =
-    scanned-utf8 c.args.text.now c.args.ends c.requires c.in_ok-bytes.bytes.items
-    (scanned-case c.args.text.now c.args.ends c.requires c.as_bytes.result.now c.in_ok-bytes.bytes.items c.as_bytes.ensures.value c.in_ok-bytes.ensures)
-
-pub invariant_of-result : goal.invariant_of-result
-invariant_of-result c =
-    scanned-keeps c.args.text.now c.args.ends c.requires (string_bytes c.from_utf8_unchecked.result)
-    (ap (λ v. v.items) c.from_utf8_unchecked.ensures.value
-    ∙ scanned-case c.args.text.now c.args.ends c.requires c.as_bytes.result.now c.in_ok-bytes.bytes.items c.as_bytes.ensures.value c.in_ok-bytes.ensures)
-
-pub returns : goal.returns
-returns c =
-    let s = was_scanned c.args.text.now c.args.ends c.requires in (
-      s.parts,
-      record { shapes = s.shapes; in_order = s.in_order },
-      ap Plain (scanned-parts c.args.text.now c.args.ends c.requires (string_bytes c.from_utf8_unchecked.result)
-      (ap (λ v. v.items) c.from_utf8_unchecked.ensures.value
-      ∙ scanned-case c.args.text.now c.args.ends c.requires c.as_bytes.result.now c.in_ok-bytes.bytes.items c.as_bytes.ensures.value c.in_ok-bytes.ensures)),
-    )
+pub returns-in_err-ends-clause-err : goal.returns-in_err-ends-clause-err
+returns-in_err-ends-clause-err c =
+    let ps = pieces (lowercase c.args.text.now) in
+    let p = err_from_is_err_and c.from_residual.result c.from_residual.ensures.1 in
+    rw (p.1, p.2) (λ other. MatchResult-at_err (Scanned ps) (IsFaultOfPieces ps) _ (sym c.in_err-ends.ensures) (scanned_law ps (some_piece (lowercase c.args.text.now))))
