@@ -1,23 +1,28 @@
 -- What a kept tag says of its parts.
-use Rattle.std.proofs.Common.{◌≡◌, ℕ, ◌+◌, ◌≤◌, List, [], ◌∷◌, ◌++◌, Option, Some, None, MatchResult, Ok, length, take, refl, sym, ap, ◌∙◌, arith, append_assoc, length-append, subst, map}
-use Rattle.std.specs.Prelude.{◌&&◌}
+use Rattle.std.proofs.Common.{Bor, ◌≡◌, ℕ, ◌+◌, ◌-◌, ◌<◌, ◌≤◌, Bool, true, false, not, cond, List, [], ◌∷◌, ◌++◌, Option, Some, None, MatchResult, Ok, length, take, drop, refl, sym, ap, ◌∙◌, arith, append_assoc, length-append, subst, map}
+use Rattle.std.specs.Prelude.{◌&&◌, codes, is_none, is_some, nat_eq}
+use Rattle.std.proofs.lemmas.List.Splits.{join_with_byte-slice_split}
+use Rattle.std.proofs.lemmas.Slice.Eq.{bytes_eq-Decides}
+use Rattle.language_tags.proofs.Unique.{same_pieces}
 use Rattle.std.proofs.lemmas.Bool.Decides.{nat_tests}
-use Rattle.std.specs.List.{flat_map, list_all}
+use Rattle.std.specs.List.{flat_map, list_all, starts_with}
 use Rattle.std.specs.Str.{IsAscii, IsUtf8, chars}
-use Rattle.std.proofs.lemmas.List.{length-map, take_at}
+use Rattle.std.proofs.lemmas.List.{length-map, take-append-drop, take_at, take_rest}
 use Rattle.std.proofs.lemmas.Str.{IsUtf8-from_ascii, chars-IsAscii}
 use Rattle.std.specs.Char.{is_ascii_alphanumeric, to_ascii_lowercase}
+use Rattle.std.specs.Option.{option_copied}
 use Rattle.language_tags.specs.Case.{in_case}
+use Rattle.language_tags.specs.Equality.{IsRange}
 use Rattle.language_tags.specs.Kept.{EndAt, IsKept, KeepsParts, between, parts_at, tag_at}
 use Rattle.language_tags.specs.Pieces.{dashed, joined, lowercase, part_text, pieces, pieces_of}
 use Rattle.language_tags.specs.Scan.{scanned}
 use Rattle.language_tags.specs.Shapes.{AreParts, is_extlang, is_variant}
-use Rattle.language_tags.specs.Tag.{Parts, Tag, Whole, Plain, at_most_one, extension_pieces, extensions_of, extlangs_of, front_of, full_language_of, language_of, print, region_of, script_of, variants_of, written}
+use Rattle.language_tags.specs.Tag.{Extension, Parts, Tag, Whole, Plain, at_most_one, extension_pieces, extensions_of, extlangs_of, front_of, full_language_of, language_of, print, private_of, private_pieces, region_of, script_of, variants_of, written}
 use Rattle.language_tags.specs.TagFault.{IsFaultOfPieces}
 use Rattle.language_tags.specs.declared.ends.Ends.{Ends}
 use Rattle.language_tags.proofs.CaseLaws.{in_case-parts, length-one, scanned-ends, scanned-text, small, small-ends}
 use Rattle.language_tags.proofs.Faults.{Scanned, scanned_law}
-use Rattle.language_tags.proofs.KeptLaws.{AreClean, E, IsClean, P, R, S, T, V, X, at-extensions, at-extlangs, at-language, at-region, at-script, at-variants, dashed-append, each-clean, joined-dashed, keeps, parts_at-text, pieces-dashed, print-ascii, smalls-clean, text-parts}
+use Rattle.language_tags.proofs.KeptLaws.{AreClean, E, IsClean, P, R, S, T, V, X, at-extensions, at-extlangs, at-language, at-private, at-region, at-script, at-variants, dashed-append, each-clean, joined-dashed, keeps, parts_at-text, pieces-dashed, pieces-print, print-ascii, smalls-clean, text-parts}
 use Rattle.language_tags.proofs.PartsLaws.{extlang-small, variant-small, written-lowercase}
 use Rattle.language_tags.proofs.PieceLaws.{some_piece}
 
@@ -120,6 +125,57 @@ module _ (o : Option Ends) (text t : List ℕ) (ends : Ends) (g : Tag) (inv : Is
         f (flat_map extension_pieces p.extensions) (ap (between ends.variant ends.extension) text_is ∙ at-extensions p ends kept.ends_are)
         ∙ ap (λ h. part_text (flat_map extension_pieces (extensions_of h))) tag_is
 
+module _ (o : Option Ends) (text t : List ℕ) (ends : Ends) (g : Tag) (inv : IsKept o text) (is : o ≡ Some ends) (same : t ≡ text)
+    (view : tag_at o text ≡ g) where
+  pub private-text : (r : Option (List ℕ))
+      → ((ps : List (List ℕ)) → between ends.extension (length t) t ≡ dashed ps → r ≡ part_text ps)
+      → r ≡ part_text (private_pieces (private_of g))
+  private-text r f =
+      let k = kept o text t ends g inv is same view in
+      let q = parts_at ends text in
+      f (private_pieces q.private)
+      (take_rest t ends.extension
+      ∙ ap (drop ends.extension) (text_is o text t ends g inv is same view) ∙ at-private q ends k.ends_are)
+      ∙ ap (λ h. part_text (private_pieces (private_of h))) (tag_is o text t ends g inv is same view)
+
+begins-x : (t : List ℕ) → starts_with nat_eq t (codes "x-") ≡ true → codes "x-" ++ drop 2 t ≡ t
+begins-x t e = ap (λ a. a ++ drop 2 t) ((bytes_eq-Decides (codes "x-") (take 2 t)).0 e) ∙ take-append-drop 2 t
+
+joined-x : (ps : List (List ℕ)) → 0 < length ps → part_text (private_pieces ps) ≡ Some (codes "x-" ++ joined ps)
+joined-x [] h = absurd (omega arith)
+joined-x (p ∷ ps) h = refl
+
+module _ (text t : List ℕ) (g : Tag) (view : Whole text ≡ g) (same : t ≡ text) where
+  pub whole-private : starts_with nat_eq t (codes "x-") ≡ true → Some t ≡ part_text (private_pieces (private_of g))
+  whole-private e =
+      sym (joined-x (pieces (drop 2 t)) (some_piece (drop 2 t))
+      ∙ ap (λ q. Some (codes "x-" ++ q)) (join_with_byte-slice_split 45 (drop 2 t))
+      ∙ ap Some (begins-x t e))
+      ∙ ap (λ b. part_text (private_pieces (cond b (pieces (drop 2 t)) []))) (sym e)
+      ∙ ap (λ q. part_text (private_pieces (private_of (Whole q)))) same
+      ∙ ap (λ h. part_text (private_pieces (private_of h))) view
+
+  pub whole-none : starts_with nat_eq t (codes "x-") ≡ false → None ≡ part_text (private_pieces (private_of g))
+  whole-none e =
+      ap (λ b. part_text (private_pieces (cond b (pieces (drop 2 t)) []))) (sym e)
+      ∙ ap (λ q. part_text (private_pieces (private_of (Whole q)))) same
+      ∙ ap (λ h. part_text (private_pieces (private_of h))) view
+
+-- ---- equal tags
+
+pub tags_equal : (o q : Option Ends) (s t : List ℕ) (g h : Tag) → IsKept o s → IsKept q t → tag_at o s ≡ g → tag_at q t ≡ h
+    → is_none o ≡ is_none q → print g ≡ print h → g ≡ h
+tags_equal None None s t g h a b e f kind same = sym e ∙ ap Whole (ap print e ∙ same ∙ sym (ap print f)) ∙ f
+tags_equal None (Some ends) s t g h a b e f kind same = cc
+tags_equal (Some ends) None s t g h a b e f kind same = cc
+tags_equal (Some ends) (Some others) s t g h a b e f kind same =
+    let p = parts_at ends s in
+    let r = parts_at others t in
+    sym e
+    ∙ ap Plain (same_pieces p r a.shapes b.shapes (ap (map lowercase)
+    (sym (pieces-print p a.shapes) ∙ ap pieces (ap print e ∙ same ∙ sym (ap print f)) ∙ pieces-print r b.shapes)))
+    ∙ f
+
 -- ---- the text of a tag is ASCII
 
 pub kept-text : (o : Option Ends) (text t : List ℕ) → IsKept o text → t ≡ text → IsAscii t
@@ -188,8 +244,34 @@ module _ (text : List ℕ) (ends : Ends) (is : scanned (pieces (lowercase text))
   pub scanned-utf8 : (cased : List ℕ) → cased ≡ joined (written q) → IsUtf8 cased
   scanned-utf8 cased e = IsUtf8-from_ascii cased (subst IsAscii (sym e) (print-ascii q was_scanned.shapes))
 
-  pub scanned-keeps : (kept : List ℕ) → kept ≡ joined (written q) → KeepsParts kept ends (parts_at ends kept)
-  scanned-keeps kept e = subst (λ t. KeepsParts t ends (parts_at ends t)) (sym e) (keeps q ends ends_at was_scanned.shapes)
+  pub scanned-keeps : (bytes : List ℕ) → bytes ≡ joined (written q) → KeepsParts bytes ends (parts_at ends bytes)
+  scanned-keeps bytes e = subst (λ t. KeepsParts t ends (parts_at ends t)) (sym e) (keeps q ends ends_at was_scanned.shapes)
 
-  pub scanned-parts : (kept : List ℕ) → kept ≡ joined (written q) → parts_at ends kept ≡ q
-  scanned-parts kept e = ap (parts_at ends) e ∙ parts_at-text q ends ends_at was_scanned.shapes
+  pub scanned-parts : (bytes : List ℕ) → bytes ≡ joined (written q) → parts_at ends bytes ≡ q
+  scanned-parts bytes e = ap (parts_at ends) e ∙ parts_at-text q ends ends_at was_scanned.shapes
+
+-- ---- ranges
+
+pub no_pieces : (r : Option (Bor (List ℕ))) (b : Bool) (ps : List (List ℕ)) → option_copied r ≡ part_text ps → not b ≡ is_some r
+    → b ≡ true → ps ≡ []
+no_pieces r b [] e h known = refl
+no_pieces None b (x ∷ ps) e h known = cc
+no_pieces (Some y) b (x ∷ ps) e h known = let clash : false ≡ true = ap not (sym known) ∙ h in cc
+
+pub no_text : (r : Option (Bor (List ℕ))) (b : Bool) (ps : List (List ℕ)) → option_copied r ≡ part_text ps → not b ≡ is_some r
+    → ps ≡ [] → b ≡ true
+no_text None true ps e h none = refl
+no_text None false ps e h none = cc
+no_text (Some y) b [] e h none = cc
+no_text (Some y) b (x ∷ ps) e h none = cc
+
+no_extensions : (es : List Extension) → flat_map extension_pieces es ≡ [] → es ≡ []
+no_extensions [] e = refl
+no_extensions (x ∷ es) e = cc
+
+no_private : (ps : List (List ℕ)) → private_pieces ps ≡ [] → ps ≡ []
+no_private [] e = refl
+no_private (x ∷ ps) e = cc
+
+pub range_is : (g : Tag) → flat_map extension_pieces (extensions_of g) ≡ [] → private_pieces (private_of g) ≡ [] → IsRange g
+range_is g a b = record { extensions = no_extensions (extensions_of g) a; private = no_private (private_of g) b }

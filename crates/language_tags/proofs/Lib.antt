@@ -12,4 +12,5 @@ mod CaseLaws
 mod PrivateLaws
 mod FindLaws
 mod PartLaws
+mod Unique
 mod KeptUse

@@ -1,5 +1,7 @@
-ghost use Rattle.std.specs.Prelude.{◌≡◌, ◌≢◌, ℕ, List, IfOk, IfErr, IsTrue, string_bytes};
+ghost use Rattle.std.specs.Prelude.{◌≡◌, ◌≢◌, ◌↔◌, ℕ, List, Some, None, IfOk, IfErr, IfSome, IsSome, IsTrue, nat_eq, string_bytes};
 ghost use Rattle.std.specs.List.{flat_map, list_all};
+ghost use Rattle.std.specs.Option.{option_copied};
+ghost use Rattle.language_tags.specs.Equality.{Agree};
 
 use crate::case::{in_case, push_lowercase};
 use crate::ends::Ends;
@@ -7,8 +9,10 @@ use crate::grandfathered::grandfathered;
 use crate::part::{front, part};
 use crate::private_use::{behind_x, check};
 use crate::scan::scan;
-use crate::{ParseError, SubtagsIter};
+use crate::{ParseError, SubtagsIter, TagJsonError};
+use serde_json::Value;
 use std::alloc::{AllocError, Global};
+use std::fmt;
 use std::marker::Model;
 
 /// A language tag. Contracts see it as a `Tag`.
@@ -33,12 +37,15 @@ impl Model for LanguageTag {
 }
 
 impl LanguageTag {
-    ghost use Rattle.std.specs.Option.{option_copied};
+    ghost use Rattle.serde_json.specs.Find.{as_str};
+    ghost use Rattle.serde_json.specs.View.{view};
+    ghost use Rattle.language_tags.specs.declared.error.ParseError.{ParseError as Fault};
     ghost use Rattle.std.specs.Str.{IsAscii, chars};
     ghost use Rattle.language_tags.specs.Pieces.{lowercase, part_text, pieces};
     ghost use Rattle.language_tags.specs.Scan.{scanned};
     ghost use Rattle.language_tags.specs.Tag.{Parts, Whole, Plain, print};
     ghost use Rattle.language_tags.specs.Tag.{at_most_one, extension_pieces, extensions_of, extlangs_of, front_of, full_language_of, language_of, private_of, private_pieces, region_of, script_of, variants_of};
+    ghost use Rattle.language_tags.specs.Equality.{IsRange, Matches};
     ghost use Rattle.language_tags.specs.TagFault.{IsFaultBehindX, IsFaultOf, IsFaultOfPieces};
     ghost use Rattle.language_tags.specs.TagOf.{IsLangtag, IsTagOf, StandsBehindX};
     ghost use Rattle.language_tags.specs.Shapes.{is_private};
@@ -215,6 +222,30 @@ impl LanguageTag {
         }
     }
 
+    /// Private use, with its `x`; of a whole tag that begins with `x-` all.
+    pub fn private_use(&self) -> Option<&str>
+        ensures value { option_copied result ≡ part_text (private_pieces (private_of self.now)) }
+    {
+        let text = self.text.as_str();
+        match &self.ends {
+            None => {
+                if text.starts_with("x-") {
+                    Some(text)
+                } else {
+                    None
+                }
+            }
+            Some(ends) => part(text, ends.extension, text.len()),
+        }
+    }
+
+    /// Whether the tag has neither extensions nor private use.
+    pub fn is_language_range(&self) -> bool
+        ensures { IsTrue result ↔ IsRange self.now }
+    {
+        self.extension().is_none() && self.private_use().is_none()
+    }
+
     /// The extlangs, one by one.
     pub fn extended_language_subtags(&self) -> SubtagsIter<'_>
         ensures { result ≡ extlangs_of self.now }
@@ -230,4 +261,129 @@ impl LanguageTag {
         let _ends = &self.ends;
         SubtagsIter::new(self.variant())
     }
+
+    /// The pieces of private use, without the `x`.
+    pub fn private_use_subtags(&self) -> SubtagsIter<'_>
+        ensures { result ≡ private_of self.now }
+    {
+        let _ends = &self.ends;
+        match self.private_use() {
+            None => SubtagsIter::new(None),
+            Some(text) => SubtagsIter::new(text.strip_prefix("x-")),
+        }
+    }
+
+    /// Whether a tag has this range's full language, its script and region where it has them, and its variants in
+    /// the places that both have.
+    pub fn matches(&self, other: &LanguageTag) -> bool
+        requires { IsRange self.now }
+        ensures { IsTrue result ↔ Matches self.now other.now }
+    {
+        let _ends = (&self.ends, &other.ends);
+        self.full_language() == other.full_language()
+            && is_none_or_equal(self.script(), other.script())
+            && is_none_or_equal(self.region(), other.region())
+            && agree(self.variant_subtags(), other.variant_subtags())
+    }
+
+    /// An equal tag.
+    pub fn try_clone(&self, alloc: Global) -> Result<LanguageTag, AllocError>
+        ensures { IfOk result (λ tag. tag ≡ self.now) }
+    {
+        Ok(LanguageTag {
+            text: String::from_str(alloc, self.text.as_str())?,
+            ends: self.ends,
+        })
+    }
+
+    /// The tag that a JSON text is, by `parse`.
+    pub fn from_json(alloc: Global, value: &Value) -> Result<LanguageTag, TagJsonError>
+        ensures ok { IfOk result (λ tag. IfSome (as_str (view value.now)) (λ text. IsTagOf text tag)) }
+        ensures some { IfOk result (λ _. IsSome (as_str (view value.now))) }
+        ensures not_text { result ≡ Err TagJsonError.NotText → as_str (view value.now) ≡ None }
+        ensures fault { (fault : Fault) → result ≡ Err (TagJsonError.Parse fault) → fault ≢ ParseError.NoMemory
+            × IfSome (as_str (view value.now)) (λ text. IsFaultOf text fault) }
+    {
+        let Some(text) = value.as_str() else {
+            return Err(TagJsonError::NotText);
+        };
+        match LanguageTag::parse(alloc, text) {
+            Ok(tag) => Ok(tag),
+            Err(fault) => match fault {
+                ParseError::NoMemory => Err(TagJsonError::NoMemory),
+                _ => Err(TagJsonError::Parse(fault)),
+            },
+        }
+    }
+
+    /// The printed tag as a JSON text.
+    pub fn to_json(&self, alloc: Global) -> Result<Value, AllocError>
+        ensures { IfOk result (λ value. as_str (view value) ≡ Some (print self.now)) }
+    {
+        Ok(Value::String(String::from_str(alloc, self.as_str())?))
+    }
+}
+
+impl fmt::Display for LanguageTag {
+    ghost use Rattle.language_tags.specs.Tag.{print};
+
+    ghost output = { λ tag. Some (print tag) };
+
+    fn fmt<W: fmt::Write>(&self, f: &mut fmt::Formatter<W>) -> fmt::Result {
+        f.write_str(self.as_str())
+    }
+}
+
+impl PartialEq for LanguageTag {
+    ghost use Rattle.std.specs.Cmp.{on_per, partial_equiv_from_equiv};
+    ghost use Rattle.std.specs.Cmp.Lexicographic.{nat_list_eq_equiv, pointwise};
+    ghost use Rattle.language_tags.specs.Equality.{key};
+
+    ghost eq = { λ s t. pointwise nat_eq (key s) (key t) };
+
+    ghost laws = { on_per key (partial_equiv_from_equiv nat_list_eq_equiv) };
+
+    fn eq(&self, other: &LanguageTag) -> bool
+        ensures value { result ≡ pointwise nat_eq (key self.now) (key other.now) }
+        ensures same { IsTrue result ↔ (self.now ≡ other.now) }
+    {
+        self.ends.is_none() == other.ends.is_none() && self.as_str() == other.as_str()
+    }
+}
+
+impl Eq for LanguageTag {
+    ghost use Rattle.std.specs.Cmp.{on_equiv};
+    ghost use Rattle.std.specs.Cmp.Lexicographic.{nat_list_eq_equiv};
+    ghost use Rattle.language_tags.specs.Equality.{key};
+
+    ghost laws = { on_equiv key nat_list_eq_equiv };
+}
+
+/// Whether a part is missing or is the same in the other tag.
+fn is_none_or_equal(part: Option<&str>, other: Option<&str>) -> bool
+    ensures { IsTrue result ↔ IfSome (option_copied part.entry) (λ p. option_copied other.entry ≡ Some p) }
+{
+    match (part, other) {
+        (None, _) => true,
+        (Some(part), Some(other)) => part == other,
+        (Some(_), None) => false,
+    }
+}
+
+/// Whether pieces agree in the places that both have.
+fn agree(range: SubtagsIter<'_>, tag: SubtagsIter<'_>) -> bool
+    ensures { IsTrue result ↔ Agree range.entry tag.entry }
+{
+    let mut others = tag;
+    for subtag in range {
+        match others.next() {
+            None => return true,
+            Some(other) => {
+                if subtag != other {
+                    return false;
+                }
+            }
+        }
+    }
+    true
 }
