@@ -1,6 +1,6 @@
 -- What a kept tag says of its parts.
 use Rattle.std.proofs.Common.{Bor, ◌≡◌, ℕ, ◌+◌, ◌-◌, ◌<◌, ◌≤◌, Bool, true, false, not, cond, List, [], ◌∷◌, ◌++◌, Option, Some, None, MatchResult, Ok, length, take, drop, refl, sym, ap, ◌∙◌, arith, append_assoc, length-append, subst, map}
-use Rattle.std.specs.Prelude.{◌&&◌, codes, is_none, is_some, nat_eq}
+use Rattle.std.specs.Prelude.{◌&&◌, MatchOption, codes, is_none, is_some, nat_eq}
 use Rattle.std.proofs.lemmas.List.Splits.{join_with_byte-slice_split}
 use Rattle.std.proofs.lemmas.Slice.Eq.{bytes_eq-Decides}
 use Rattle.language_tags.proofs.Unique.{same_pieces}
@@ -11,19 +11,20 @@ use Rattle.std.proofs.lemmas.List.{length-map, take-append-drop, take_at, take_r
 use Rattle.std.proofs.lemmas.Str.{IsUtf8-from_ascii, chars-IsAscii}
 use Rattle.std.specs.Char.{is_ascii_alphanumeric, to_ascii_lowercase}
 use Rattle.std.specs.Option.{option_copied}
+use Rattle.std.specs.Str.Pattern.{FindsTextPrefix}
 use Rattle.language_tags.specs.Case.{in_case}
 use Rattle.language_tags.specs.Equality.{IsRange}
 use Rattle.language_tags.specs.Kept.{EndAt, IsKept, KeepsParts, between, parts_at, tag_at}
 use Rattle.language_tags.specs.Pieces.{dashed, joined, lowercase, part_text, pieces, pieces_of}
 use Rattle.language_tags.specs.Scan.{scanned}
-use Rattle.language_tags.specs.Shapes.{AreParts, is_extlang, is_variant}
+use Rattle.language_tags.specs.Shapes.{AreParts, is_extlang, is_private, is_variant}
 use Rattle.language_tags.specs.Tag.{Extension, Parts, Tag, Whole, Plain, at_most_one, extension_pieces, extensions_of, extlangs_of, front_of, full_language_of, language_of, print, private_of, private_pieces, region_of, script_of, variants_of, written}
 use Rattle.language_tags.specs.TagFault.{IsFaultOfPieces}
 use Rattle.language_tags.specs.declared.ends.Ends.{Ends}
 use Rattle.language_tags.proofs.CaseLaws.{in_case-parts, length-one, scanned-ends, scanned-text, small, small-ends}
 use Rattle.language_tags.proofs.Faults.{Scanned, scanned_law}
 use Rattle.language_tags.proofs.KeptLaws.{AreClean, E, IsClean, P, R, S, T, V, X, at-extensions, at-extlangs, at-language, at-private, at-region, at-script, at-variants, dashed-append, each-clean, joined-dashed, keeps, parts_at-text, pieces-dashed, pieces-print, print-ascii, smalls-clean, text-parts}
-use Rattle.language_tags.proofs.PartsLaws.{extlang-small, variant-small, written-lowercase}
+use Rattle.language_tags.proofs.PartsLaws.{extlang-small, private-small, variant-small, written-lowercase}
 use Rattle.language_tags.proofs.PieceLaws.{some_piece}
 
 module _ (o : Option Ends) (text t : List ℕ) (ends : Ends) (g : Tag) (inv : IsKept o text) (is : o ≡ Some ends) (same : t ≡ text)
@@ -184,15 +185,16 @@ kept-text (Some ends) text t h e = subst IsAscii (sym (e ∙ h.text_is)) (print-
 
 -- ---- pieces of parts
 
+first-clean : (x : List ℕ) (ps : List (List ℕ)) → AreClean (x ∷ ps) → IsClean x
+first-clean x ps h = grind (arith, nat_tests)
+
+rest-clean : (x : List ℕ) (ps : List (List ℕ)) → AreClean (x ∷ ps) → AreClean ps
+rest-clean x ps h = grind (arith, nat_tests)
+
 pub pieces-part_text : (ps : List (List ℕ)) → AreClean ps → pieces_of (part_text ps) ≡ ps
 pieces-part_text [] h = refl
 pieces-part_text (x ∷ ps) h =
-    ap pieces (joined-dashed x ps) ∙ pieces-dashed x ps (head-clean x ps h) (tail-clean x ps h)
-  where
-    head-clean : (x : List ℕ) (ps : List (List ℕ)) → AreClean (x ∷ ps) → IsClean x
-    head-clean x ps h = grind (arith, nat_tests)
-    tail-clean : (x : List ℕ) (ps : List (List ℕ)) → AreClean (x ∷ ps) → AreClean ps
-    tail-clean x ps h = grind (arith, nat_tests)
+    ap pieces (joined-dashed x ps) ∙ pieces-dashed x ps (first-clean x ps h) (rest-clean x ps h)
 
 pub extlangs-clean : (o : Option Ends) (text : List ℕ) (g : Tag) → IsKept o text → tag_at o text ≡ g → AreClean (extlangs_of g)
 extlangs-clean None text g h e = ap (λ q. list_all (list_all is_ascii_alphanumeric) (extlangs_of q)) (sym e)
@@ -275,3 +277,38 @@ no_private (x ∷ ps) e = cc
 
 pub range_is : (g : Tag) → flat_map extension_pieces (extensions_of g) ≡ [] → private_pieces (private_of g) ≡ [] → IsRange g
 range_is g a b = record { extensions = no_extensions (extensions_of g) a; private = no_private (private_of g) b }
+
+-- ---- the pieces behind the x
+
+pub private-cut : (o : Option Ends) (text : List ℕ) (g : Tag) → IsKept o text → tag_at o text ≡ g
+    → 0 < length (private_of g) → pieces (joined (private_of g)) ≡ private_of g
+private-cut None text g h e some = subst (λ (q : Tag). pieces (joined (private_of q)) ≡ private_of q) e (by (starts_with nat_eq text (codes "x-")) (subst (λ q. 0 < length (private_of q)) (sym e) some))
+  where
+    by : (b : Bool) → 0 < length (cond b (pieces (drop 2 text)) [])
+        → pieces (joined (cond b (pieces (drop 2 text)) [])) ≡ cond b (pieces (drop 2 text)) []
+    by true some = ap pieces (join_with_byte-slice_split 45 (drop 2 text))
+    by false some = absurd (omega arith)
+private-cut (Some ends) text g h e some =
+    subst (λ (q : Tag). pieces (joined (private_of q)) ≡ private_of q) e
+    (by (parts_at ends text).private h.shapes.private (subst (λ q. 0 < length (private_of q)) (sym e) some))
+  where
+    by : (ps : List (List ℕ)) → list_all is_private ps ≡ true → 0 < length ps → pieces (joined ps) ≡ ps
+    by [] f some = absurd (omega arith)
+    by (x ∷ ps) f some =
+        let clean = each-clean is_private (λ y k. smalls-clean y (private-small y k)) (x ∷ ps) f in
+        ap pieces (joined-dashed x ps)
+        ∙ pieces-dashed x ps (first-clean x ps clean) (rest-clean x ps clean)
+
+abbrev pub IsStripped : List ℕ → Option (Bor (List ℕ)) → Type 0
+IsStripped text r =
+    MatchOption r (FindsTextPrefix (codes "x-") text None)
+    (λ x. (n : ℕ) × FindsTextPrefix (codes "x-") text (Some n) × (x.now ≡ drop n text) × (length x.now + n ≡ length text))
+
+pub private-rest : (ps : List (List ℕ)) (text : List ℕ) (r : Option (Bor (List ℕ))) → Some text ≡ part_text (private_pieces ps)
+    → (0 < length ps → pieces (joined ps) ≡ ps) → IsStripped text r → pieces_of (option_copied r) ≡ ps
+private-rest [] text r e cut h = cc
+private-rest (p ∷ ps) text None e cut h =
+    let is : text ≡ codes "x-" ++ joined (p ∷ ps) = cc in absurd (h (joined (p ∷ ps)) is)
+private-rest (p ∷ ps) text (Some x) e cut h =
+    let is : text ≡ codes "x-" ++ joined (p ∷ ps) = cc in
+    ap pieces (h.2 ∙ ap (λ n. drop n text) h.1.0 ∙ ap (drop 2) is) ∙ cut (omega arith)

@@ -13,4 +13,5 @@ mod PrivateLaws
 mod FindLaws
 mod PartLaws
 mod Unique
+mod AgreeLaws
 mod KeptUse

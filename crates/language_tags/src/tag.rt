@@ -279,7 +279,6 @@ impl LanguageTag {
         requires { IsRange self.now }
         ensures { IsTrue result ↔ Matches self.now other.now }
     {
-        let _ends = (&self.ends, &other.ends);
         self.full_language() == other.full_language()
             && is_none_or_equal(self.script(), other.script())
             && is_none_or_equal(self.region(), other.region())
