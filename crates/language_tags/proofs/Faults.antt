@@ -118,7 +118,7 @@ module _ (x : List ℕ) where
 
 -- ---- and what the definition says of it
 
-abbrev stage_in : Result (Stage × Flat) ParseError → Stage
+abbrev pub stage_in : Result (Stage × Flat) ParseError → Stage
 stage_in (Ok r) = r.0
 stage_in (Err e) = Start
 

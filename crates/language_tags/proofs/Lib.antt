@@ -13,5 +13,6 @@ mod PrivateLaws
 mod FindLaws
 mod PartLaws
 mod Unique
+mod NeverBoth
 mod AgreeLaws
 mod KeptUse
