@@ -1,23 +1,22 @@
 -- A text in the case of a langtag is the text of its parts.
-use Rattle.std.proofs.Common.{◌≡◌, ℕ, zero, suc, ◌+◌, ◌-◌, ◌<◌, ◌≤◌, min, Bool, true, false, List, [], ◌∷◌, ◌++◌, Option, Some, None, length, take, drop, refl, sym, ap, ◌∙◌, cond, arith, append_assoc, append-nil, length-append, subst, map}
-use Rattle.std.specs.Prelude.{◌==◌, ◌&&◌, IfSome, IsTrue}
+use Rattle.std.proofs.Common.{◌≡◌, ℕ, zero, suc, ◌+◌, ◌-◌, true, List, [], ◌∷◌, ◌++◌, Option, Some, None, length, take, drop, refl, sym, ap, ◌∙◌, arith, append_assoc, append-nil, length-append, map}
+use Rattle.std.specs.Prelude.{IfSome, IsTrue}
 use Rattle.std.specs.Char.{is_ascii_lowercase, is_ascii_uppercase, to_ascii_lowercase, to_ascii_uppercase}
-use Rattle.std.specs.List.{flat_map, list_all}
+use Rattle.std.specs.List.{list_all}
 use Rattle.std.specs.Option.{option_map}
 use Rattle.std.specs.Str.{byte}
 use Rattle.std.proofs.lemmas.Bool.Decides.{nat_tests}
 use Rattle.std.proofs.lemmas.List.{drop_at, length-map, take_at}
 use Rattle.std.proofs.lemmas.List.Splits.{join_with_byte-slice_split}
 use Rattle.language_tags.specs.Case.{capital, in_case}
-use Rattle.language_tags.specs.Kept.{EndAt, KeepsParts, between, parts_at}
-use Rattle.language_tags.specs.Pieces.{dashed, joined, lowercase, pieces, titlecase, uppercase}
+use Rattle.language_tags.specs.Kept.{EndAt, between}
+use Rattle.language_tags.specs.Pieces.{dashed, joined, lowercase, pieces, uppercase}
 use Rattle.language_tags.specs.Shapes.{AreParts, is_region, is_script}
-use Rattle.language_tags.specs.Tag.{Parts, at_most_one, extension_pieces, private_pieces, written}
+use Rattle.language_tags.specs.Tag.{Parts, at_most_one, written}
 use Rattle.language_tags.specs.declared.ends.Ends.{Ends}
-use Rattle.language_tags.proofs.Flat.{ends_of}
 use Rattle.language_tags.proofs.Faults.{Scanned}
 use Rattle.language_tags.proofs.KeptLaws.{E, P, R, S, V, X, between-middle, text-parts}
-use Rattle.language_tags.proofs.PartsLaws.{flat, letters-small, region-upper, small-lowercase, written-lowercase}
+use Rattle.language_tags.proofs.PartsLaws.{letters-small, region-upper, small-lowercase, written-lowercase}
 
 -- ---- maps and cuts
 
@@ -110,8 +109,16 @@ module _ (p : Parts) (h : AreParts p) (ends : Ends) (at : EndAt p ends) where
   rest-part =
       ap (drop ends.region) (simp append_assoc)
       ∙ drop_at (((p.language ++ E p) ++ S (small p)) ++ R (small p)) back ends.region
-      (omega (arith, front-width, at.script, at.region, length-one p.script, length-one p.region,
-      length-append (p.language ++ E p) (S (small p)), length-append ((p.language ++ E p) ++ S (small p)) (R (small p))))
+      (omega (
+        arith,
+        front-width,
+        at.script,
+        at.region,
+        length-one p.script,
+        length-one p.region,
+        length-append (p.language ++ E p) (S (small p)),
+        length-append ((p.language ++ E p) ++ S (small p)) (R (small p)),
+      ))
 
   script-part : (o : Option (List ℕ)) → p.script ≡ o → IfSome o (λ s. IsTrue (is_script s))
       → uppercase (between ends.extlang (capital ends) L) ++ between (capital ends) ends.script L ≡ dashed (at_most_one o)
@@ -129,19 +136,19 @@ module _ (p : Parts) (h : AreParts p) (ends : Ends) (at : EndAt p ends) where
       let front = p.language ++ E p in
       let more = R (small p) ++ back in
       let whole : L ≡ front ++ ((byte "-" ∷ d ∷ []) ++ (rest ++ more)) =
-          ap (λ q. p.language ++ (E p ++ (dashed (at_most_one (option_map lowercase q)) ++ more))) e
-          ∙ ap (λ t. p.language ++ (E p ++ (t ++ more))) cut.4
-          ∙ sym (append_assoc p.language (E p) (byte "-" ∷ d ∷ (rest ++ more))) in
+      ap (λ q. p.language ++ (E p ++ (dashed (at_most_one (option_map lowercase q)) ++ more))) e
+      ∙ ap (λ t. p.language ++ (E p ++ (t ++ more))) cut.4
+      ∙ sym (append_assoc p.language (E p) (byte "-" ∷ d ∷ (rest ++ more))) in
       let wide : ends.script ≡ ends.extlang + (2 + length rest) =
-          omega (arith, at.script, ap (λ q. length (dashed (at_most_one q))) e, ap length cut.3) in
+      omega (arith, at.script, ap (λ q. length (dashed (at_most_one q))) e, ap length cut.3) in
       let cap : capital ends ≡ ends.extlang + 2 = omega (arith, wide) in
       let first : between ends.extlang (capital ends) L ≡ byte "-" ∷ d ∷ [] =
-          ap (between ends.extlang (capital ends)) whole
-          ∙ between-middle front (byte "-" ∷ d ∷ []) (rest ++ more) ends.extlang (capital ends) front-width cap in
+      ap (between ends.extlang (capital ends)) whole
+      ∙ between-middle front (byte "-" ∷ d ∷ []) (rest ++ more) ends.extlang (capital ends) front-width cap in
       let second : between (capital ends) ends.script L ≡ rest =
-          ap (between (capital ends) ends.script) (whole ∙ sym (append_assoc front (byte "-" ∷ d ∷ []) (rest ++ more)))
-          ∙ between-middle (front ++ (byte "-" ∷ d ∷ [])) rest more (capital ends) ends.script
-          (omega (arith, cap, front-width, length-append front (byte "-" ∷ d ∷ []))) (omega (arith, cap, wide)) in
+      ap (between (capital ends) ends.script) (whole ∙ sym (append_assoc front (byte "-" ∷ d ∷ []) (rest ++ more)))
+      ∙ between-middle (front ++ (byte "-" ∷ d ∷ [])) rest more (capital ends) ends.script
+      (omega (arith, cap, front-width, length-append front (byte "-" ∷ d ∷ []))) (omega (arith, cap, wide)) in
       (λ i. uppercase (first i) ++ second i) ∙ ap (λ b. byte "-" ∷ b ∷ rest) cut.5 ∙ sym cut.3
 
   pub in_case-parts : (text : List ℕ) → lowercase text ≡ joined (map lowercase (written p)) → in_case ends text ≡ joined (written p)
@@ -150,13 +157,13 @@ module _ (p : Parts) (h : AreParts p) (ends : Ends) (at : EndAt p ends) where
       let up : uppercase text ≡ uppercase L = sym (uppercase-lowercase text) ∙ ap uppercase all in
       let c = capital ends in
       (λ i. (take-map to_ascii_lowercase ends.extlang text i ++ between-map to_ascii_uppercase ends.extlang c text i
-          ++ between-map to_ascii_lowercase c ends.script text i ++ between-map to_ascii_uppercase ends.script ends.region text i
-          ++ drop-map to_ascii_lowercase ends.region text i))
+      ++ between-map to_ascii_lowercase c ends.script text i ++ between-map to_ascii_uppercase ends.script ends.region text i
+      ++ drop-map to_ascii_lowercase ends.region text i))
       ∙ (λ i. take ends.extlang (all i) ++ between ends.extlang c (up i) ++ between c ends.script (all i)
-          ++ between ends.script ends.region (up i) ++ drop ends.region (all i))
+      ++ between ends.script ends.region (up i) ++ drop ends.region (all i))
       ∙ (λ i. front i ++ sym (between-map to_ascii_uppercase ends.extlang c L) i ++ between c ends.script L
-          ++ (sym (between-map to_ascii_uppercase ends.script ends.region L) ∙ ap uppercase region-part ∙ region-there p.region h.region) i
-          ++ rest-part i)
+      ++ (sym (between-map to_ascii_uppercase ends.script ends.region L) ∙ ap uppercase region-part ∙ region-there p.region h.region) i
+      ++ rest-part i)
       ∙ regroup (p.language ++ E p) (uppercase (between ends.extlang c L)) (between c ends.script L) (R p) back
       ∙ ap (λ s. (p.language ++ E p) ++ (s ++ (R p ++ back))) (script-part p.script refl h.script)
       ∙ append_assoc p.language (E p) (S p ++ (R p ++ back))

@@ -1,17 +1,17 @@
 -- What the scanner refuses is the first fault of the pieces.
-use Rattle.std.proofs.Common.{◌≡◌, ◌≢◌, ℕ, zero, suc, ◌+◌, ◌<◌, ◌≤◌, Bool, true, false, ◌⊎◌, inl, inr, List, [], ◌∷◌, ◌++◌, Option, Some, None, Result, Ok, Err, IfOk, IfErr, MatchResult, length, take, get_or, refl, sym, ap, ◌∙◌, cond, arith, add-one, append_assoc, append-nil, length-append, nat_lt, nat_le, subst, map, ⊎_elim}
+use Rattle.std.proofs.Common.{◌≡◌, ◌≢◌, ℕ, ◌+◌, ◌≤◌, Bool, true, false, List, [], ◌∷◌, ◌++◌, Some, Result, Ok, Err, IfOk, IfErr, MatchResult, length, take, refl, sym, ap, ◌∙◌, cond, arith, append_assoc, append-nil, length-append, nat_lt, nat_le, subst, map}
 use Rattle.std.specs.Prelude.{◌==◌, ◌&&◌, slice_get, slice_index}
 use Rattle.std.specs.Char.{is_ascii_lowercase}
 use Rattle.std.specs.List.{list_all}
 use Rattle.std.specs.Str.{byte}
 use Rattle.std.proofs.lemmas.Bool.Decides.{nat_tests}
 use Rattle.std.proofs.lemmas.List.{take-append-le, take_all, take_at}
-use Rattle.language_tags.specs.Begun.{Begun, EndInThirdExtlang, EndsIn, EndsInSingleton, EndsInX, with_parts, with_singleton, with_x}
+use Rattle.language_tags.specs.Begun.{Begun, EndsInSingleton, EndsInX}
 use Rattle.language_tags.specs.Pieces.{lowercase}
 use Rattle.language_tags.specs.Scan.{and_then, at_last, at_start, behind_content, behind_extlang, behind_extlangs, behind_region, behind_script, behind_singleton, behind_x, in_place, is_single, is_small_region, is_small_script, opening, scanned, stage_after}
-use Rattle.language_tags.specs.Shapes.{AreParts, is_content, is_extlang, is_language, is_private, is_singleton, is_small, is_variant}
+use Rattle.language_tags.specs.Shapes.{AreParts, is_content, is_extlang, is_private, is_variant}
 use Rattle.language_tags.specs.Tag.{Parts, written}
-use Rattle.language_tags.specs.TagFault.{AreBegun, IsFaultOfPieces, IsFourthExtlang, IsSecondSingle, IsSingle, IsSized, IsUnfinished, IsWrongAt, IsWrongBehind, at_end, at_piece}
+use Rattle.language_tags.specs.TagFault.{AreBegun, IsFaultOfPieces, IsSingle, IsSized, IsWrongAt, IsWrongBehind, at_end, at_piece}
 use Rattle.language_tags.specs.declared.ends.Ends.{Ends}
 use Rattle.language_tags.specs.declared.error.ParseError.{ParseError}
 use Rattle.language_tags.specs.declared.error.ParseError.TheVariants.{EmptyExtension, EmptyPrivateUse, ForbiddenChar, InvalidSubtag, InvalidLanguage, SubtagTooLong, EmptySubtag, TooManyExtlangs, NoMemory}
@@ -20,7 +20,7 @@ use Rattle.language_tags.specs.declared.stage.Stage.TheVariants.{Start, LongLang
 use Rattle.language_tags.proofs.Flat.{Flat, ends_of, grown, nothing, seen, seen-grown}
 use Rattle.language_tags.proofs.Holds.{Holds, HoldsExtlangs, Leads, stage_after_leads}
 use Rattle.language_tags.proofs.Forward.{rank, run, run_step}
-use Rattle.language_tags.proofs.Runs.{Passed, last, run_passed, scanned_is}
+use Rattle.language_tags.proofs.Runs.{last, scanned_is}
 use Rattle.language_tags.proofs.PartsLaws.{flat}
 use Rattle.language_tags.proofs.Grammar.{Made, begun_passed, holds_begun, holds_made, singleton_ends, singleton_passed, third_passed, x_ends}
 
@@ -139,15 +139,18 @@ module _ (s : Stage) (f : Flat) (x : List ℕ) (h : Holds s f) (reached : run St
       let e : HoldsExtlangs c.0 f = subst (λ t. Holds t f) c.1 h in
       let three : 3 ≤ c.0 = grind (arith, nat_tests, c.2) in (
         sized,
-        (record {
-          language = e.whole.head.name;
-          extlangs = f.extlangs;
-          is = e.whole.head.is;
-          short = e.short;
-          are = e.whole.head.are;
-          three = omega (arith, e.count, e.whole.head.few, three);
-          in_order = simp (append-nil, e.whole.head.named, e.none.0, e.none.1.0, e.none.1.1.0, e.none.1.1.1.0, e.none.1.1.1.1);
-        }, c.3),
+        (
+          record {
+            language = e.whole.head.name;
+            extlangs = f.extlangs;
+            is = e.whole.head.is;
+            short = e.short;
+            are = e.whole.head.are;
+            three = omega (arith, e.count, e.whole.head.few, three);
+            in_order = simp (append-nil, e.whole.head.named, e.none.0, e.none.1.0, e.none.1.1.0, e.none.1.1.1.0, e.none.1.1.1.1);
+          },
+          c.3,
+        ),
       )
   wrong InvalidSubtag c = (
     sized,
@@ -257,6 +260,7 @@ outcome (x ∷ ps) s f r = by (outcome ps) (stage_after s x) refl (stage_after_l
     more next leads q h =
         subst (λ qs. MatchResult q (Ended qs) (Stops qs))
         (ap (λ qs. qs ++ ps) (seen-grown next f x leads.1) ∙ append_assoc (seen f) (x ∷ []) ps) h
+
     by : ((t : Stage) (g : Flat) → Reached t g → MatchResult (run t g ps) (Ended (seen g ++ ps)) (Stops (seen g ++ ps)))
         → (q : Result Stage ParseError) → stage_after s x ≡ q → IfOk q (Leads f x)
         → MatchResult (and_then (λ next. run next (grown next f x) ps) q) (Ended (seen f ++ (x ∷ ps))) (Stops (seen f ++ (x ∷ ps)))
@@ -283,7 +287,7 @@ module _ (ps : List (List ℕ)) (fault : ParseError) (h : Stops ps fault) where
   stops_breaks b =
       let p = begun_passed (seen h.sections ++ (h.piece ∷ [])) b in
       let e : run Start nothing (seen h.sections ++ (h.piece ∷ [])) ≡ Err fault =
-          h.reached.runs (h.piece ∷ []) ∙ ap (and_then (λ next. run next (grown next h.sections h.piece) [])) h.refuses in
+      h.reached.runs (h.piece ∷ []) ∙ ap (and_then (λ next. run next (grown next h.sections h.piece) [])) h.refuses in
       let clash : true ≡ false = ap is_ok_stage (sym p.is ∙ e) in cc
 
   take_front : (n : ℕ) → n ≤ length (seen h.sections) → take n ps ≡ take n (seen h.sections)
@@ -320,6 +324,7 @@ finished s f ps a h = by s h.reached.holds a (holds_made s f (ends_of f) a h.rea
   where
     all : AllBegun ps
     all = subst AllBegun (sym h.all) h.reached.begun
+
     made : (e : Ends) → Made f × (e ≡ ends_of f) → Scanned ps e
     made e m = record {
       parts = m.0.parts;
@@ -327,6 +332,7 @@ finished s f ps a h = by s h.reached.holds a (holds_made s f (ends_of f) a h.rea
       in_order = h.all ∙ m.0.in_order;
       ends_are = m.1 ∙ ap ends_of (sym m.0.sections);
     }
+
     by : (t : Stage) → Holds t f → 1 ≤ rank t → IfOk (at_last t (ends_of f)) (λ e. Made f × (e ≡ ends_of f))
         → MatchResult (at_last t (ends_of f)) (Scanned ps) (IsFaultOfPieces ps)
     by Start g b m = absurd (omega arith)

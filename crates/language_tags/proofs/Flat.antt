@@ -1,5 +1,5 @@
 -- The pieces of a langtag, section by section, as the scanner passes them.
-use Rattle.std.proofs.Common.{◌≡◌, ℕ, zero, suc, ◌+◌, ◌-◌, ◌<◌, ◌≤◌, List, [], ◌∷◌, ◌++◌, length, refl, sym, ap, ◌∙◌, arith, append_assoc, append-nil, length-append}
+use Rattle.std.proofs.Common.{◌≡◌, ℕ, zero, suc, ◌+◌, ◌-◌, List, [], ◌∷◌, ◌++◌, length, refl, ap, arith, append_assoc, append-nil, length-append}
 use Rattle.language_tags.specs.Pieces.{dashed}
 use Rattle.language_tags.specs.Scan.{ends_at}
 use Rattle.language_tags.specs.declared.ends.Ends.{Ends}
@@ -102,13 +102,15 @@ pub place_is : (f : Flat) → place f
     ≡ width f.language + width f.extlangs + width f.script + width f.region + width f.variants + width f.extension
     + width f.private
 place_is f =
-    omega (arith,
-    width-append f.language (f.extlangs ++ (f.script ++ (f.region ++ (f.variants ++ (f.extension ++ f.private))))),
-    width-append f.extlangs (f.script ++ (f.region ++ (f.variants ++ (f.extension ++ f.private)))),
-    width-append f.script (f.region ++ (f.variants ++ (f.extension ++ f.private))),
-    width-append f.region (f.variants ++ (f.extension ++ f.private)),
-    width-append f.variants (f.extension ++ f.private),
-    width-append f.extension f.private)
+    omega (
+      arith,
+      width-append f.language (f.extlangs ++ (f.script ++ (f.region ++ (f.variants ++ (f.extension ++ f.private))))),
+      width-append f.extlangs (f.script ++ (f.region ++ (f.variants ++ (f.extension ++ f.private)))),
+      width-append f.script (f.region ++ (f.variants ++ (f.extension ++ f.private))),
+      width-append f.region (f.variants ++ (f.extension ++ f.private)),
+      width-append f.variants (f.extension ++ f.private),
+      width-append f.extension f.private,
+    )
 
 empty-width : (ps : List (List ℕ)) → ps ≡ [] → width ps ≡ 0
 empty-width ps e = ap width e
@@ -142,8 +144,14 @@ place-grown Private f x h = omega (arith, place_is f, place_is (grown Private f 
 module _ (f : Flat) (x : List ℕ) where
   ends-language : (f.language ≡ []) × NoneBehindLanguage f
       → ends_of (record f { language = f.language ++ (x ∷ []) })
-      ≡ record { language = place f + length x; extlang = place f + length x; script = place f + length x;
-        region = place f + length x; variant = place f + length x; extension = place f + length x }
+      ≡ record {
+        language = place f + length x;
+        extlang = place f + length x;
+        script = place f + length x;
+        region = place f + length x;
+        variant = place f + length x;
+        extension = place f + length x;
+      }
   ends-language h =
       let l = empty-width f.language h.0 in
       let a = empty-width f.extlangs h.1.0 in
@@ -158,8 +166,13 @@ module _ (f : Flat) (x : List ℕ) where
 
   ends-extlangs : NoneBehindExtlangs f
       → ends_of (record f { extlangs = f.extlangs ++ (x ∷ []) })
-      ≡ record (ends_of f) { extlang = place f + length x; script = place f + length x;
-        region = place f + length x; variant = place f + length x; extension = place f + length x }
+      ≡ record (ends_of f) {
+        extlang = place f + length x;
+        script = place f + length x;
+        region = place f + length x;
+        variant = place f + length x;
+        extension = place f + length x;
+      }
   ends-extlangs h =
       let b = empty-width f.script h.0 in
       let c = empty-width f.region h.1.0 in
@@ -172,8 +185,12 @@ module _ (f : Flat) (x : List ℕ) where
 
   ends-script : NoneBehindScript f
       → ends_of (record f { script = f.script ++ (x ∷ []) })
-      ≡ record (ends_of f) { script = place f + length x;
-        region = place f + length x; variant = place f + length x; extension = place f + length x }
+      ≡ record (ends_of f) {
+        script = place f + length x;
+        region = place f + length x;
+        variant = place f + length x;
+        extension = place f + length x;
+      }
   ends-script h =
       let c = empty-width f.region h.0 in
       let d = empty-width f.variants h.1.0 in

@@ -1,21 +1,17 @@
 -- The scanner passes the pieces of a tag's parts, section by section.
-use Rattle.std.proofs.Common.{◌≡◌, ◌≢◌, ℕ, zero, suc, ◌+◌, ◌<◌, ◌≤◌, Bool, true, false, ◌⊎◌, inl, inr, List, [], ◌∷◌, ◌++◌, Option, Some, None, Result, Ok, Err, IfOk, IfSome, length, refl, sym, ap, ◌∙◌, cond, arith, add-one, append_assoc, append-nil, length-append, nat_lt, nat_le, subst, map, ⊎_elim}
-use Rattle.std.specs.Prelude.{◌==◌, ◌&&◌, not, slice_index}
+use Rattle.std.proofs.Common.{◌≡◌, ℕ, suc, ◌+◌, ◌<◌, ◌≤◌, Bool, true, false, List, [], ◌∷◌, Result, Ok, Err, length, refl, ap, ◌∙◌, cond, arith, add-one, nat_lt}
+use Rattle.std.specs.Prelude.{◌==◌, ◌&&◌}
 use Rattle.std.specs.Char.{is_ascii_digit, is_ascii_lowercase}
-use Rattle.std.specs.Int.{is_in_range}
-use Rattle.std.specs.List.{AllByRecursion, flat_map, list_all}
+use Rattle.std.specs.List.{list_all}
 use Rattle.std.specs.Str.{byte}
 use Rattle.std.proofs.lemmas.Bool.Decides.{nat_tests}
-use Rattle.language_tags.specs.Scan.{and_then, at_last, behind_extlang, behind_extlangs, behind_region, behind_script, ends_at, in_place, is_single, is_small_region, is_small_script, opening, scanned_from, stage_after}
-use Rattle.language_tags.specs.Shapes.{IsExtension, is_content, is_extlang, is_language, is_private, is_singleton, is_small, is_variant}
-use Rattle.language_tags.specs.Tag.{Extension as Run, at_most_one, extension_pieces, private_pieces}
-use Rattle.language_tags.specs.declared.ends.Ends.{Ends}
+use Rattle.language_tags.specs.Scan.{and_then, behind_extlang, behind_extlangs, behind_region, behind_script, in_place, is_single, is_small_region, is_small_script, opening, stage_after}
+use Rattle.language_tags.specs.Shapes.{is_content, is_extlang, is_private, is_singleton, is_small, is_variant}
 use Rattle.language_tags.specs.declared.error.ParseError.{ParseError}
-use Rattle.language_tags.specs.declared.error.ParseError.TheVariants.{EmptyExtension, InvalidSubtag, InvalidLanguage, SubtagTooLong, EmptySubtag, TooManyExtlangs}
+use Rattle.language_tags.specs.declared.error.ParseError.TheVariants.{EmptyExtension, InvalidSubtag, SubtagTooLong, EmptySubtag, TooManyExtlangs}
 use Rattle.language_tags.specs.declared.stage.Stage.{Stage}
 use Rattle.language_tags.specs.declared.stage.Stage.TheVariants.{Start, LongLanguage, Extlangs, Script, Region, Variant, Singleton, Extension, X, Private}
-use Rattle.language_tags.proofs.Flat.{Flat, ends-grown, ends_of, grown, nothing, place, place-grown, seen, seen-grown}
-use Rattle.language_tags.proofs.Holds.{Holds, Leads, stage_after_leads}
+use Rattle.language_tags.proofs.Flat.{Flat, grown}
 
 -- the stage and the sections behind pieces
 abbrev pub run : Stage → Flat → List (List ℕ) → Result (Stage × Flat) ParseError

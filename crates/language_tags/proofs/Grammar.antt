@@ -1,27 +1,20 @@
 -- What the scanner passes begins a tag, and what it refuses begins none.
-use Rattle.std.proofs.Common.{◌≡◌, ◌≢◌, ℕ, zero, suc, ◌+◌, ◌<◌, ◌≤◌, Bool, true, false, ◌⊎◌, inl, inr, List, [], ◌∷◌, ◌++◌, Option, Some, None, Result, Ok, Err, IfOk, IfErr, MatchResult, length, take, refl, sym, ap, ◌∙◌, cond, arith, add-one, append_assoc, append-nil, length-append, nat_lt, nat_le, subst, map}
-use Rattle.std.specs.Prelude.{◌==◌, ◌&&◌, slice_get, slice_index}
-use Rattle.std.specs.Char.{is_ascii_lowercase}
-use Rattle.std.specs.List.{list_all}
+use Rattle.std.proofs.Common.{◌≡◌, ℕ, ◌≤◌, true, List, [], ◌∷◌, ◌++◌, Ok, IfOk, length, refl, sym, ap, ◌∙◌, cond, arith, append-nil, nat_le, map}
 use Rattle.std.specs.Str.{byte}
 use Rattle.std.proofs.lemmas.Bool.Decides.{nat_tests}
-use Rattle.std.proofs.lemmas.List.{take-append-le, take_all, take_at}
 use Rattle.language_tags.specs.Begun.{Begun, EndInThirdExtlang, EndsIn, EndsInSingleton, EndsInX, with_parts, with_singleton, with_x}
 use Rattle.language_tags.specs.Pieces.{lowercase}
-use Rattle.language_tags.specs.Scan.{and_then, at_last, at_start, behind_content, behind_extlang, behind_extlangs, behind_region, behind_script, behind_singleton, behind_x, in_place, is_single, is_small_region, is_small_script, opening, scanned, stage_after}
-use Rattle.language_tags.specs.Shapes.{AreParts, is_content, is_extlang, is_language, is_private, is_singleton, is_small, is_variant}
+use Rattle.language_tags.specs.Scan.{at_last, stage_after}
+use Rattle.language_tags.specs.Shapes.{AreParts}
 use Rattle.language_tags.specs.Tag.{Parts, private_pieces, written}
-use Rattle.language_tags.specs.TagFault.{AreBegun, IsFaultOfPieces, IsFourthExtlang, IsSecondSingle, IsSingle, IsSized, IsUnfinished, IsWrongAt, IsWrongBehind, at_end, at_piece}
 use Rattle.language_tags.specs.declared.ends.Ends.{Ends}
-use Rattle.language_tags.specs.declared.error.ParseError.{ParseError}
-use Rattle.language_tags.specs.declared.error.ParseError.TheVariants.{EmptyExtension, EmptyPrivateUse, ForbiddenChar, InvalidSubtag, InvalidLanguage, SubtagTooLong, EmptySubtag, TooManyExtlangs, NoMemory}
 use Rattle.language_tags.specs.declared.stage.Stage.{Stage}
 use Rattle.language_tags.specs.declared.stage.Stage.TheVariants.{Start, LongLanguage, Extlangs, Script, Region, Variant, Singleton, Extension, X, Private}
-use Rattle.language_tags.proofs.Flat.{Flat, NonePrivate, ends_of, grown, nothing, seen, seen-grown}
-use Rattle.language_tags.proofs.Holds.{Holds, HoldsExtension, HoldsExtlangs, HoldsPrivate, HoldsSingleton, HoldsX, Leads, Whole, stage_after_leads, whole_extension}
+use Rattle.language_tags.proofs.Flat.{Flat, NonePrivate, grown, nothing, seen, seen-grown}
+use Rattle.language_tags.proofs.Holds.{Holds, HoldsPrivate, HoldsSingleton, HoldsX, Whole, whole_extension}
 use Rattle.language_tags.proofs.Forward.{rank, run, run_step, to_singleton, to_x}
-use Rattle.language_tags.proofs.Runs.{last, named, only, pass_language, run_extlangs, scanned_is, with_extlangs, with_private}
-use Rattle.language_tags.proofs.PartsLaws.{IsEnd, are_parts, flat, flat-parts_of, in_front, in_private, parsed, parsed_front, parts_of, written-lowercase}
+use Rattle.language_tags.proofs.Runs.{only, pass_language, run_extlangs, with_extlangs, with_private}
+use Rattle.language_tags.proofs.PartsLaws.{IsEnd, are_parts, flat, flat-parts_of, parsed, parsed_front, parts_of, written-lowercase}
 
 -- ---- sections that hold begin a tag
 
@@ -124,9 +117,11 @@ pub record PassedTo (ps : List (List ℕ)) : Type 0 where
 
 pub parts_passed : (p : Parts) → AreParts p → (s : Stage) × IsEnd s × (run Start nothing (map lowercase (written p)) ≡ Ok (s, flat p))
 parts_passed p h =
-    let all = parsed p h in
-    (all.stage, all.is_end,
-    ap (run Start nothing) (written-lowercase p h ∙ sym (append-nil (seen (flat p)))) ∙ all.runs [])
+    let all = parsed p h in (
+      all.stage,
+      all.is_end,
+      ap (run Start nothing) (written-lowercase p h ∙ sym (append-nil (seen (flat p)))) ∙ all.runs [],
+    )
 
 private-nothing : (p : Parts) → p.private ≡ [] → flat p ≡ with_private (flat p) []
 private-nothing p e = ap (λ ps. with_private (flat p) (private_pieces ps)) e
@@ -160,9 +155,9 @@ third_passed ps h =
     let is : nat_le (length h.language) 3 ≡ true = grind (arith, nat_tests, h.short) in (
       _,
       ap (run Start nothing) h.in_order
-      ∙ pass_language h.language h.is h.extlangs
-      ∙ ap (λ b. run (cond b (Extlangs 0) LongLanguage) (only h.language) h.extlangs) is
-      ∙ ap (run (Extlangs 0) (only h.language)) (sym (append-nil h.extlangs))
-      ∙ run_extlangs h.extlangs 0 (only h.language) h.are (omega (arith, h.three)) []
-      ∙ ap (λ n. Ok (Extlangs n, with_extlangs (only h.language) h.extlangs)) (omega (arith, h.three)),
+          ∙ pass_language h.language h.is h.extlangs
+          ∙ ap (λ b. run (cond b (Extlangs 0) LongLanguage) (only h.language) h.extlangs) is
+          ∙ ap (run (Extlangs 0) (only h.language)) (sym (append-nil h.extlangs))
+          ∙ run_extlangs h.extlangs 0 (only h.language) h.are (omega (arith, h.three)) []
+          ∙ ap (λ n. Ok (Extlangs n, with_extlangs (only h.language) h.extlangs)) (omega (arith, h.three)),
     )

@@ -1,5 +1,5 @@
 -- What the scanner's stage says of the pieces so far, and that each step keeps it.
-use Rattle.std.proofs.Common.{◌≡◌, ◌≢◌, ℕ, zero, suc, ◌+◌, ◌<◌, ◌≤◌, Bool, true, false, ◌⊎◌, inl, inr, List, [], ◌∷◌, ◌++◌, Option, Some, None, Result, Ok, Err, IfOk, IfSome, length, refl, sym, ap, ◌∙◌, cond, arith, add-one, append_assoc, append-nil, length-append, IsTrue, nat_lt, nat_le, subst}
+use Rattle.std.proofs.Common.{◌≡◌, ℕ, ◌+◌, ◌<◌, ◌≤◌, Bool, true, false, ◌⊎◌, inl, inr, List, [], ◌∷◌, ◌++◌, Option, Some, None, Ok, Err, IfOk, IfSome, length, refl, sym, ap, ◌∙◌, cond, arith, add-one, append_assoc, append-nil, length-append, nat_lt, nat_le, subst}
 use Rattle.std.specs.Prelude.{◌==◌, ◌&&◌, not, slice_index}
 use Rattle.std.specs.Char.{is_ascii_lowercase}
 use Rattle.std.specs.List.{AllByRecursion, flat_map, list_all}
@@ -12,7 +12,7 @@ use Rattle.language_tags.specs.declared.error.ParseError.{ParseError}
 use Rattle.language_tags.specs.declared.error.ParseError.TheVariants.{EmptyExtension, InvalidSubtag, InvalidLanguage, SubtagTooLong, EmptySubtag, TooManyExtlangs}
 use Rattle.language_tags.specs.declared.stage.Stage.{Stage}
 use Rattle.language_tags.specs.declared.stage.Stage.TheVariants.{Start, LongLanguage, Extlangs, Script, Region, Variant, Singleton, Extension, X, Private}
-use Rattle.language_tags.proofs.Flat.{Flat, NoneBehind, NoneBehindExtlangs, NoneBehindLanguage, NoneBehindRegion, NoneBehindScript, NoneBehindVariants, NonePrivate, grown, nothing, seen}
+use Rattle.language_tags.proofs.Flat.{Flat, NoneBehind, NoneBehindExtlangs, NoneBehindLanguage, NoneBehindRegion, NoneBehindScript, NoneBehindVariants, NonePrivate, grown, nothing}
 
 -- the language and its extlangs
 pub record Head (language extlangs : List (List ℕ)) : Type 0 where
@@ -187,6 +187,7 @@ module _ (f : Flat) (x : List ℕ) where
         },
         none,
       )
+
       by : (b : Bool) → is_single x ≡ b
           → IfOk {E = ParseError} (cond b (cond (slice_index x 0 == byte "x") (Ok X) (Ok Singleton)) (Err InvalidSubtag)) (Leads f x)
       by true e = let s = single_is x e in then s.0 s.1 s.2 (slice_index x 0 == byte "x") refl
@@ -198,13 +199,16 @@ module _ (f : Flat) (x : List ℕ) where
       by : (b : Bool) → is_variant x ≡ b → IfOk (opening x) (Leads f x)
           → IfOk (cond b (Ok Variant) (opening x)) (Leads f x)
       by true e rest = (
-        (record {
-          head = w.head;
-          script = w.script;
-          region = w.region;
-          variants = all-more is_variant f.variants x w.variants e;
-          runs = w.runs;
-        }, none),
+        (
+          record {
+            head = w.head;
+            script = w.script;
+            region = w.region;
+            variants = all-more is_variant f.variants x w.variants e;
+            runs = w.runs;
+          },
+          none,
+        ),
         none,
       )
       by false e rest = rest
@@ -215,13 +219,16 @@ module _ (f : Flat) (x : List ℕ) where
       by : (b : Bool) → is_small_region x ≡ b → IfOk (behind_region x) (Leads f x)
           → IfOk (cond b (Ok Region) (behind_region x)) (Leads f x)
       by true e rest = (
-        (record {
-          head = w.head;
-          script = w.script;
-          region = subst (λ ps. AtMostOne is_small_region (ps ++ (x ∷ []))) (sym none.0) (one_of is_small_region x e);
-          variants = w.variants;
-          runs = w.runs;
-        }, none.1),
+        (
+          record {
+            head = w.head;
+            script = w.script;
+            region = subst (λ ps. AtMostOne is_small_region (ps ++ (x ∷ []))) (sym none.0) (one_of is_small_region x e);
+            variants = w.variants;
+            runs = w.runs;
+          },
+          none.1,
+        ),
         none.1,
       )
       by false e rest = rest
@@ -232,13 +239,16 @@ module _ (f : Flat) (x : List ℕ) where
       by : (b : Bool) → is_small_script x ≡ b → IfOk (behind_script x) (Leads f x)
           → IfOk (cond b (Ok Script) (behind_script x)) (Leads f x)
       by true e rest = (
-        (record {
-          head = w.head;
-          script = subst (λ ps. AtMostOne is_small_script (ps ++ (x ∷ []))) (sym none.0) (one_of is_small_script x e);
-          region = w.region;
-          variants = w.variants;
-          runs = w.runs;
-        }, none.1),
+        (
+          record {
+            head = w.head;
+            script = subst (λ ps. AtMostOne is_small_script (ps ++ (x ∷ []))) (sym none.0) (one_of is_small_script x e);
+            region = w.region;
+            variants = w.variants;
+            runs = w.runs;
+          },
+          none.1,
+        ),
         none.1,
       )
       by false e rest = rest
@@ -270,6 +280,7 @@ module _ (f : Flat) (x : List ℕ) where
             short = h.short;
           })
       then e false more = tt
+
       by : (b : Bool) → is_extlang x ≡ b → IfOk (behind_extlangs x) (Leads f x)
           → IfOk (cond b (cond (nat_lt n 3) (Ok (Extlangs (n + 1))) (Err TooManyExtlangs)) (behind_extlangs x)) (Leads f x)
       by true e rest = then e (nat_lt n 3) refl
@@ -284,9 +295,11 @@ module _ (f : Flat) (x : List ℕ) where
       now e =
           ap (λ g. grown Extension g x) e
           ∙ ap (with_extension h.before) (append_assoc h.before.extension ((h.singleton ∷ []) ∷ []) (x ∷ []))
+
       then : (b : Bool) → IfOk {E = ParseError} (cond b (Err EmptyExtension) (Err InvalidSubtag)) (Leads f x)
       then true = tt
       then false = tt
+
       by : (b : Bool) → is_content x ≡ b
           → IfOk (cond b (Ok Extension) (cond (is_single x) (Err EmptyExtension) (Err InvalidSubtag))) (Leads f x)
       by true e = (
@@ -393,8 +406,10 @@ at_start_leads f x small e =
       variants = refl;
       runs = no_runs;
     }
+
     none : NoneBehindLanguage nothing
     none = (refl, (refl, (refl, (refl, (refl, refl)))))
+
     then : (nat_le 2 (length x) && list_all is_ascii_lowercase x) ≡ true → (b : Bool) → nat_le (length x) 3 ≡ b
         → IfOk {E = ParseError} (cond b (Ok (Extlangs 0)) (Ok LongLanguage)) (Leads nothing x)
     then e true short = (
@@ -402,6 +417,7 @@ at_start_leads f x small e =
       (refl, none),
     )
     then e false long = ((whole e, none), (refl, none))
+
     by : (b : Bool) → (nat_le 2 (length x) && list_all is_ascii_lowercase x) ≡ b
         → IfOk (cond b (cond (nat_le (length x) 3) (Ok (Extlangs 0)) (Ok LongLanguage)) (Err InvalidLanguage)) (Leads nothing x)
     by true e = then e (nat_le (length x) 3) refl

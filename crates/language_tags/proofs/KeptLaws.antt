@@ -1,16 +1,16 @@
 -- The text of a tag's parts, cut where the parts end, gives the parts back.
-use Rattle.std.proofs.Common.{◌≡◌, ℕ, zero, suc, ◌+◌, ◌-◌, ◌<◌, ◌≤◌, Bool, true, false, ◌⊎◌, inl, inr, List, [], ◌∷◌, ◌++◌, Option, Some, None, length, take, drop, refl, sym, ap, ◌∙◌, cond, arith, append_assoc, append-nil, length-append, subst, map}
+use Rattle.std.proofs.Common.{◌≡◌, ℕ, ◌+◌, ◌-◌, ◌<◌, Bool, true, false, List, [], ◌∷◌, ◌++◌, Option, Some, None, length, take, drop, refl, sym, ap, ◌∙◌, cond, arith, append_assoc, append-nil, length-append, subst}
 use Rattle.std.specs.Prelude.{◌==◌, ◌&&◌, ◌||◌, IfSome, IsTrue}
 use Rattle.std.specs.Char.{is_ascii_alphanumeric, is_ascii_digit, is_ascii_lowercase, is_ascii_uppercase}
-use Rattle.std.specs.List.{AllByRecursion, flat_map, list_all, onto_first, slice_split}
+use Rattle.std.specs.List.{AllByRecursion, flat_map, list_all, onto_first}
 use Rattle.std.specs.Str.{IsAscii, byte}
 use Rattle.std.proofs.lemmas.Bool.Decides.{nat_tests}
-use Rattle.std.proofs.lemmas.List.{drop_at, take_at, map-append}
+use Rattle.std.proofs.lemmas.List.{drop_at, take_at}
 use Rattle.std.proofs.lemmas.Str.{IsAscii-append}
 use Rattle.std.proofs.lemmas.Str.Ascii.{IsAscii-cons, IsAscii-nil}
-use Rattle.language_tags.specs.Kept.{EndAt, Grouped, KeepsParts, between, first_piece, grouped, part_pieces, parts_at, put}
-use Rattle.language_tags.specs.Pieces.{dashed, is_dash, joined, lowercase, pieces, uppercase}
-use Rattle.language_tags.specs.Shapes.{AreParts, IsExtension, is_content, is_extlang, is_language, is_private, is_region, is_script, is_singleton, is_small, is_variant}
+use Rattle.language_tags.specs.Kept.{EndAt, KeepsParts, between, first_piece, grouped, part_pieces, parts_at, put}
+use Rattle.language_tags.specs.Pieces.{dashed, is_dash, joined, pieces}
+use Rattle.language_tags.specs.Shapes.{AreParts, IsExtension, is_content, is_extlang, is_private, is_region, is_script, is_small, is_variant}
 use Rattle.language_tags.specs.Tag.{Extension as Run, Parts, at_most_one, behind_language, extension_pieces, private_pieces, written}
 use Rattle.language_tags.specs.declared.ends.Ends.{Ends}
 use Rattle.language_tags.proofs.PartsLaws.{all-weaker, content-small, extlang-small, language-small, private-small, variant-small}
@@ -151,13 +151,13 @@ grouped-runs [] h = refl
 grouped-runs (r ∷ rs) h =
     ap (put (r.singleton ∷ [])) (grouped-content r.content (flat_map extension_pieces rs) h.0.content
     ∙ (λ i. record {
-        front = r.content ++ (grouped-runs rs h.1 i).front;
-        extensions = (grouped-runs rs h.1 i).extensions;
-      }))
+      front = r.content ++ (grouped-runs rs h.1 i).front;
+      extensions = (grouped-runs rs h.1 i).extensions;
+    }))
     ∙ (λ i. record {
-        front = [];
-        extensions = record { singleton = r.singleton; content = append-nil r.content i } ∷ rs;
-      })
+      front = [];
+      extensions = record { singleton = r.singleton; content = append-nil r.content i } ∷ rs;
+    })
 
 -- ---- the text
 
@@ -221,24 +221,52 @@ module _ (p : Parts) where
     at-variants =
         ap (between ends.region ends.variant) (simp append_assoc)
         ∙ between-middle (((p.language ++ E) ++ S) ++ R) V (X ++ P) ends.region ends.variant
-        (omega (arith, at.language, at.extlang, at.script, at.region, length-append p.language E,
-        length-append (p.language ++ E) S, length-append ((p.language ++ E) ++ S) R)) at.variant
+        (omega (
+          arith,
+          at.language,
+          at.extlang,
+          at.script,
+          at.region,
+          length-append p.language E,
+          length-append (p.language ++ E) S,
+          length-append ((p.language ++ E) ++ S) R,
+        )) at.variant
 
     pub at-extensions : between ends.variant ends.extension T ≡ X
     at-extensions =
         ap (between ends.variant ends.extension) (simp append_assoc)
         ∙ between-middle ((((p.language ++ E) ++ S) ++ R) ++ V) X P ends.variant ends.extension
-        (omega (arith, at.language, at.extlang, at.script, at.region, at.variant, length-append p.language E,
-        length-append (p.language ++ E) S, length-append ((p.language ++ E) ++ S) R,
-        length-append (((p.language ++ E) ++ S) ++ R) V)) at.extension
+        (omega (
+          arith,
+          at.language,
+          at.extlang,
+          at.script,
+          at.region,
+          at.variant,
+          length-append p.language E,
+          length-append (p.language ++ E) S,
+          length-append ((p.language ++ E) ++ S) R,
+          length-append (((p.language ++ E) ++ S) ++ R) V,
+        )) at.extension
 
     pub at-private : drop ends.extension T ≡ P
     at-private =
         ap (drop ends.extension) (simp append_assoc)
         ∙ drop_at (((((p.language ++ E) ++ S) ++ R) ++ V) ++ X) P ends.extension
-        (omega (arith, at.language, at.extlang, at.script, at.region, at.variant, at.extension, length-append p.language E,
-        length-append (p.language ++ E) S, length-append ((p.language ++ E) ++ S) R,
-        length-append (((p.language ++ E) ++ S) ++ R) V, length-append ((((p.language ++ E) ++ S) ++ R) ++ V) X))
+        (omega (
+          arith,
+          at.language,
+          at.extlang,
+          at.script,
+          at.region,
+          at.variant,
+          at.extension,
+          length-append p.language E,
+          length-append (p.language ++ E) S,
+          length-append ((p.language ++ E) ++ S) R,
+          length-append (((p.language ++ E) ++ S) ++ R) V,
+          length-append ((((p.language ++ E) ++ S) ++ R) ++ V) X,
+        ))
 
     first-one : (o : Option (List ℕ)) → first_piece (at_most_one o) ≡ o
     first-one None = refl

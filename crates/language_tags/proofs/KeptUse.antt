@@ -1,14 +1,14 @@
 -- What a kept tag says of its parts.
-use Rattle.std.proofs.Common.{Bor, ◌≡◌, ℕ, ◌+◌, ◌-◌, ◌<◌, ◌≤◌, Bool, true, false, not, cond, List, [], ◌∷◌, ◌++◌, Option, Some, None, MatchResult, Ok, length, take, drop, refl, sym, ap, ◌∙◌, arith, append_assoc, length-append, subst, map}
-use Rattle.std.specs.Prelude.{◌&&◌, MatchOption, codes, is_none, is_some, nat_eq}
+use Rattle.std.proofs.Common.{Bor, ◌≡◌, ℕ, ◌+◌, ◌<◌, ◌≤◌, Bool, true, false, not, cond, List, [], ◌∷◌, ◌++◌, Option, Some, None, MatchResult, Ok, length, take, drop, refl, sym, ap, ◌∙◌, arith, append_assoc, length-append, subst, map}
+use Rattle.std.specs.Prelude.{MatchOption, codes, is_none, is_some, nat_eq}
 use Rattle.std.proofs.lemmas.List.Splits.{join_with_byte-slice_split}
 use Rattle.std.proofs.lemmas.Slice.Eq.{bytes_eq-Decides}
 use Rattle.language_tags.proofs.Unique.{same_pieces}
 use Rattle.std.proofs.lemmas.Bool.Decides.{nat_tests}
 use Rattle.std.specs.List.{flat_map, list_all, starts_with}
-use Rattle.std.specs.Str.{IsAscii, IsUtf8, chars}
+use Rattle.std.specs.Str.{IsAscii, IsUtf8}
 use Rattle.std.proofs.lemmas.List.{length-map, take-append-drop, take_at, take_rest}
-use Rattle.std.proofs.lemmas.Str.{IsUtf8-from_ascii, chars-IsAscii}
+use Rattle.std.proofs.lemmas.Str.{IsUtf8-from_ascii}
 use Rattle.std.specs.Char.{is_ascii_alphanumeric, to_ascii_lowercase}
 use Rattle.std.specs.Option.{option_copied}
 use Rattle.std.specs.Str.Pattern.{FindsTextPrefix}
@@ -17,11 +17,11 @@ use Rattle.language_tags.specs.Equality.{IsRange}
 use Rattle.language_tags.specs.Kept.{EndAt, IsKept, KeepsParts, between, parts_at, tag_at}
 use Rattle.language_tags.specs.Pieces.{dashed, joined, lowercase, part_text, pieces, pieces_of}
 use Rattle.language_tags.specs.Scan.{scanned}
-use Rattle.language_tags.specs.Shapes.{AreParts, is_extlang, is_private, is_variant}
+use Rattle.language_tags.specs.Shapes.{is_extlang, is_private, is_variant}
 use Rattle.language_tags.specs.Tag.{Extension, Parts, Tag, Whole, Plain, at_most_one, extension_pieces, extensions_of, extlangs_of, front_of, full_language_of, language_of, print, private_of, private_pieces, region_of, script_of, variants_of, written}
 use Rattle.language_tags.specs.TagFault.{IsFaultOfPieces}
 use Rattle.language_tags.specs.declared.ends.Ends.{Ends}
-use Rattle.language_tags.proofs.CaseLaws.{in_case-parts, length-one, scanned-ends, scanned-text, small, small-ends}
+use Rattle.language_tags.proofs.CaseLaws.{in_case-parts, scanned-ends, scanned-text, small, small-ends}
 use Rattle.language_tags.proofs.Faults.{Scanned, scanned_law}
 use Rattle.language_tags.proofs.KeptLaws.{AreClean, E, IsClean, P, R, S, T, V, X, at-extensions, at-extlangs, at-language, at-private, at-region, at-script, at-variants, dashed-append, each-clean, joined-dashed, keeps, parts_at-text, pieces-dashed, pieces-print, print-ascii, smalls-clean, text-parts}
 use Rattle.language_tags.proofs.PartsLaws.{extlang-small, private-small, variant-small, written-lowercase}
@@ -47,10 +47,22 @@ module _ (o : Option Ends) (text t : List ℕ) (ends : Ends) (g : Tag) (inv : Is
   pub kept-within : ends.extension ≤ length t
   kept-within =
       let at = kept.ends_are in
-      omega (arith, ap length text_is, at.language, at.extlang, at.script, at.region, at.variant, at.extension,
-      length-append p.language (E p ++ (S p ++ (R p ++ (V p ++ (X p ++ P p))))),
-      length-append (E p) (S p ++ (R p ++ (V p ++ (X p ++ P p)))), length-append (S p) (R p ++ (V p ++ (X p ++ P p))),
-      length-append (R p) (V p ++ (X p ++ P p)), length-append (V p) (X p ++ P p), length-append (X p) (P p))
+      omega (
+        arith,
+        ap length text_is,
+        at.language,
+        at.extlang,
+        at.script,
+        at.region,
+        at.variant,
+        at.extension,
+        length-append p.language (E p ++ (S p ++ (R p ++ (V p ++ (X p ++ P p))))),
+        length-append (E p) (S p ++ (R p ++ (V p ++ (X p ++ P p)))),
+        length-append (S p) (R p ++ (V p ++ (X p ++ P p))),
+        length-append (R p) (V p ++ (X p ++ P p)),
+        length-append (V p) (X p ++ P p),
+        length-append (X p) (P p),
+      )
 
   pub language-extlang : ends.language ≤ ends.extlang
   language-extlang = omega (arith, kept.ends_are.extlang)
@@ -83,8 +95,18 @@ module _ (o : Option Ends) (text t : List ℕ) (ends : Ends) (g : Tag) (inv : Is
       let at = kept.ends_are in
       ap (take ends.variant) (text_is ∙ regroup p.language (E p) (S p) (R p) (V p) (X p ++ P p))
       ∙ take_at (p.language ++ (E p ++ (S p ++ (R p ++ V p)))) (X p ++ P p) ends.variant
-      (sym (omega (arith, at.language, at.extlang, at.script, at.region, at.variant, length-append p.language (E p ++ (S p ++ (R p ++ V p))),
-      length-append (E p) (S p ++ (R p ++ V p)), length-append (S p) (R p ++ V p), length-append (R p) (V p))))
+      (sym (omega (
+        arith,
+        at.language,
+        at.extlang,
+        at.script,
+        at.region,
+        at.variant,
+        length-append p.language (E p ++ (S p ++ (R p ++ V p))),
+        length-append (E p) (S p ++ (R p ++ V p)),
+        length-append (S p) (R p ++ V p),
+        length-append (R p) (V p),
+      )))
       ∙ sym (joined-dashed p.language (p.extlangs ++ (at_most_one p.script ++ (at_most_one p.region ++ p.variants)))
       ∙ ap (λ q. p.language ++ q) (dashed-append p.extlangs (at_most_one p.script ++ (at_most_one p.region ++ p.variants))
       ∙ ap (λ q. E p ++ q) (dashed-append (at_most_one p.script) (at_most_one p.region ++ p.variants)
@@ -233,11 +255,21 @@ module _ (text : List ℕ) (ends : Ends) (is : scanned (pieces (lowercase text))
       let s = small q in
       let at = small-ends q ends ends_at in
       let all : lowercase text ≡ s.language ++ (E s ++ (S s ++ (R s ++ (V s ++ (X s ++ P s))))) =
-          scanned-text text ends was_scanned ∙ ap joined (written-lowercase q was_scanned.shapes) ∙ text-parts s in
-      omega (arith, ap length same, ap length all, length-map text to_ascii_lowercase, at.language, at.extlang, at.script, at.region,
-      length-append s.language (E s ++ (S s ++ (R s ++ (V s ++ (X s ++ P s))))),
-      length-append (E s) (S s ++ (R s ++ (V s ++ (X s ++ P s)))), length-append (S s) (R s ++ (V s ++ (X s ++ P s))),
-      length-append (R s) (V s ++ (X s ++ P s)))
+      scanned-text text ends was_scanned ∙ ap joined (written-lowercase q was_scanned.shapes) ∙ text-parts s in
+      omega (
+        arith,
+        ap length same,
+        ap length all,
+        length-map text to_ascii_lowercase,
+        at.language,
+        at.extlang,
+        at.script,
+        at.region,
+        length-append s.language (E s ++ (S s ++ (R s ++ (V s ++ (X s ++ P s))))),
+        length-append (E s) (S s ++ (R s ++ (V s ++ (X s ++ P s)))),
+        length-append (S s) (R s ++ (V s ++ (X s ++ P s))),
+        length-append (R s) (V s ++ (X s ++ P s)),
+      )
 
   pub scanned-case : (t cased : List ℕ) → t ≡ text → cased ≡ in_case ends t → cased ≡ joined (written q)
   scanned-case t cased same e =

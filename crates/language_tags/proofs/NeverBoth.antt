@@ -1,24 +1,23 @@
 -- A text that has a tag has no fault.
-use Rattle.std.proofs.Common.{◌≡◌, ◌≢◌, ℕ, zero, suc, ◌+◌, ◌<◌, ◌≤◌, Bool, true, false, List, [], ◌∷◌, ◌++◌, Option, Some, None, Result, Ok, Err, MatchResult, length, take, drop, refl, sym, ap, ◌∙◌, append-nil, arith, subst, map}
-use Rattle.std.specs.Prelude.{◌&&◌, ◌||◌, IsTrue, codes, slice_get}
-use Rattle.std.specs.Char.{is_ascii_alphanumeric}
+use Rattle.std.proofs.Common.{◌≡◌, ℕ, zero, suc, ◌+◌, ◌<◌, true, false, List, [], ◌∷◌, ◌++◌, Some, Ok, MatchResult, length, take, drop, refl, sym, ap, ◌∙◌, append-nil, arith, subst}
+use Rattle.std.specs.Prelude.{◌&&◌, ◌||◌, slice_get}
 use Rattle.std.specs.List.{list_all}
 use Rattle.std.specs.Str.{byte}
 use Rattle.std.proofs.lemmas.Bool.Decides.{nat_tests}
 use Rattle.std.proofs.lemmas.List.Splits.{join_with_byte-slice_split}
-use Rattle.language_tags.specs.Begun.{Begun, EndsInSingleton, EndsInX}
+use Rattle.language_tags.specs.Begun.{Begun}
 use Rattle.language_tags.specs.Pieces.{is_dash, joined, lowercase, pieces}
 use Rattle.language_tags.specs.Shapes.{is_private, is_small}
-use Rattle.language_tags.specs.Tag.{Parts, Tag, written}
-use Rattle.language_tags.specs.TagFault.{IsFaultBehindX, IsFaultOf, IsFaultOfPieces, IsFirstBad, IsUnfinished, IsWrongAt, are_allowed, at_end, at_piece, behind_x, in_pieces}
+use Rattle.language_tags.specs.Tag.{Parts, Tag}
+use Rattle.language_tags.specs.TagFault.{IsFaultBehindX, IsFaultOf, IsFaultOfPieces, IsUnfinished, are_allowed, at_end, at_piece, behind_x, in_pieces}
 use Rattle.language_tags.specs.TagOf.{IsLangtag, IsTagOf, langtag, private_use, whole}
 use Rattle.language_tags.specs.declared.error.ParseError.{ParseError}
 use Rattle.language_tags.specs.declared.error.ParseError.TheVariants.{EmptyExtension, EmptyPrivateUse, ForbiddenChar, InvalidSubtag, InvalidLanguage, SubtagTooLong, EmptySubtag, TooManyExtlangs, NoMemory}
 use Rattle.language_tags.specs.declared.stage.Stage.{Stage}
 use Rattle.language_tags.specs.declared.stage.Stage.TheVariants.{Start, Singleton, X}
 use Rattle.language_tags.proofs.Faults.{Ended, Stops, outcome, reached_nothing, stage_in}
-use Rattle.language_tags.proofs.Flat.{Flat, nothing, seen}
-use Rattle.language_tags.proofs.Forward.{rank, run}
+use Rattle.language_tags.proofs.Flat.{Flat, nothing}
+use Rattle.language_tags.proofs.Forward.{run}
 use Rattle.language_tags.proofs.Grammar.{parts_passed, singleton_passed, x_passed}
 use Rattle.language_tags.proofs.PartsLaws.{IsEnd, flat, in_front, in_private}
 

@@ -1,6 +1,6 @@
 -- The sections of a tag's parts, in lower case, and the parts of sections.
-use Rattle.std.proofs.Common.{◌≡◌, ℕ, zero, suc, ◌+◌, ◌<◌, ◌≤◌, Bool, true, false, ◌⊎◌, inl, inr, List, [], ◌∷◌, ◌++◌, Option, Some, None, Result, Ok, Err, length, refl, sym, ap, ◌∙◌, cond, arith, append_assoc, append-nil, length-append, subst, map}
-use Rattle.std.specs.Prelude.{◌==◌, ◌&&◌, ◌||◌, IfSome, IsTrue, drop, slice_index}
+use Rattle.std.proofs.Common.{◌≡◌, ℕ, ◌≤◌, Bool, true, false, ◌⊎◌, inl, inr, List, [], ◌∷◌, ◌++◌, Option, Some, None, length, refl, sym, ap, ◌∙◌, arith, append_assoc, append-nil, map}
+use Rattle.std.specs.Prelude.{◌==◌, ◌&&◌, ◌||◌, IfSome, IsTrue}
 use Rattle.std.specs.Char.{is_ascii_digit, is_ascii_lowercase, is_ascii_uppercase, to_ascii_lowercase, to_ascii_uppercase}
 use Rattle.std.specs.List.{AllByRecursion, flat_map, list_all}
 use Rattle.std.specs.Option.{option_map}
@@ -9,14 +9,14 @@ use Rattle.std.proofs.lemmas.Bool.Decides.{nat_tests}
 use Rattle.std.proofs.lemmas.List.{length-map, map-append}
 use Rattle.language_tags.specs.Pieces.{lowercase, titlecase, uppercase}
 use Rattle.language_tags.specs.Scan.{is_small_region, is_small_script}
-use Rattle.language_tags.specs.Shapes.{AreParts, IsExtension, is_content, is_extlang, is_language, is_private, is_region, is_script, is_singleton, is_small, is_variant}
-use Rattle.language_tags.specs.Tag.{Extension as Run, Parts, at_most_one, behind_language, extension_pieces, private_pieces, written}
+use Rattle.language_tags.specs.Shapes.{AreParts, IsExtension, is_content, is_extlang, is_language, is_private, is_region, is_script, is_small, is_variant}
+use Rattle.language_tags.specs.Tag.{Extension as Run, Parts, at_most_one, extension_pieces, private_pieces, written}
 use Rattle.language_tags.specs.declared.stage.Stage.{Stage}
 use Rattle.language_tags.specs.declared.stage.Stage.TheVariants.{Start, X}
 use Rattle.language_tags.proofs.Flat.{Flat, nothing, seen}
-use Rattle.language_tags.proofs.Holds.{AtMostOne, Whole}
+use Rattle.language_tags.proofs.Holds.{Whole}
 use Rattle.language_tags.proofs.Forward.{rank, run, to_x}
-use Rattle.language_tags.proofs.Runs.{Passes, named, only, pass_extlangs, pass_language, pass_more, pass_nothing, pass_private, pass_region, pass_runs, pass_script, pass_variants, passes_both, with_extension, with_extlangs, with_private, with_region, with_script, with_variants}
+use Rattle.language_tags.proofs.Runs.{Passes, named, only, pass_extlangs, pass_language, pass_more, pass_private, pass_region, pass_runs, pass_script, pass_variants, passes_both, with_private}
 
 -- ---- case
 
@@ -84,7 +84,7 @@ runs-lowercase (r ∷ rs) h =
     let small : is_small r.singleton ≡ true = grind (arith, nat_tests, h.0.singleton) in
     map-append lowercase (extension_pieces r) (flat_map extension_pieces rs)
     ∙ (λ i. ((small-lower r.singleton small i ∷ []) ∷ all-lowercase is_content content-small r.content h.0.content i)
-        ++ runs-lowercase rs h.1 i)
+    ++ runs-lowercase rs h.1 i)
 
 pub private-lowercase : (ps : List (List ℕ)) → list_all is_private ps ≡ true → map lowercase (private_pieces ps) ≡ private_pieces ps
 private-lowercase [] e = refl
@@ -269,14 +269,14 @@ written-lowercase p h =
     let xs = flat_map extension_pieces p.extensions in
     let ps = private_pieces p.private in
     (λ i. small-lowercase p.language (language-small p.language h.language) i
-        ∷ (map-append lowercase es (s ++ (r ++ (vs ++ (xs ++ ps))))
-        ∙ ap (λ y. map lowercase es ++ y) (map-append lowercase s (r ++ (vs ++ (xs ++ ps)))
-        ∙ ap (λ y. map lowercase s ++ y) (map-append lowercase r (vs ++ (xs ++ ps))
-        ∙ ap (λ y. map lowercase r ++ y) (map-append lowercase vs (xs ++ ps)
-        ∙ ap (λ y. map lowercase vs ++ y) (map-append lowercase xs ps))))) i)
+    ∷ (map-append lowercase es (s ++ (r ++ (vs ++ (xs ++ ps))))
+    ∙ ap (λ y. map lowercase es ++ y) (map-append lowercase s (r ++ (vs ++ (xs ++ ps)))
+    ∙ ap (λ y. map lowercase s ++ y) (map-append lowercase r (vs ++ (xs ++ ps))
+    ∙ ap (λ y. map lowercase r ++ y) (map-append lowercase vs (xs ++ ps)
+    ∙ ap (λ y. map lowercase vs ++ y) (map-append lowercase xs ps))))) i)
     ∙ (λ i. p.language ∷ (all-lowercase is_extlang extlang-small es h.extlangs i
-        ++ (one-lowercase p.script i ++ (one-lowercase p.region i ++ (all-lowercase is_variant variant-small vs h.variants i
-        ++ (runs-lowercase p.extensions h.extensions i ++ private-lowercase p.private h.private i))))))
+    ++ (one-lowercase p.script i ++ (one-lowercase p.region i ++ (all-lowercase is_variant variant-small vs h.variants i
+    ++ (runs-lowercase p.extensions h.extensions i ++ private-lowercase p.private h.private i))))))
 
 script-fits : (o : Option (List ℕ)) → IfSome o (λ s. IsTrue (is_script s)) → IfSome (option_map lowercase o) (λ x. is_small_script x ≡ true)
 script-fits None h = tt

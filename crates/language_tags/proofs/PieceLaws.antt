@@ -1,12 +1,12 @@
 -- Texts in pieces.
-use Rattle.std.proofs.Common.{◌≡◌, ◌≢◌, ℕ, suc, ◌+◌, ◌<◌, Bool, true, false, not, List, [], ◌∷◌, ◌++◌, Option, Some, None, map, length, refl, sym, ap, ◌∙◌, cond, arith, lit<, append_assoc, length-append, Bor, subst}
+use Rattle.std.proofs.Common.{◌≡◌, ℕ, suc, ◌+◌, ◌<◌, Bool, true, false, not, List, [], ◌∷◌, Option, Some, None, map, length, refl, sym, ap, ◌∙◌, cond, arith, lit<, Bor}
 use Rattle.std.specs.Prelude.{MatchOption}
 use Rattle.std.specs.Char.{to_ascii_lowercase}
-use Rattle.std.specs.List.{slice_split, onto_first, join_with_byte, position_or_len, before_first, after_first}
+use Rattle.std.specs.List.{onto_first, position_or_len}
 use Rattle.std.proofs.lemmas.Bool.Decides.{nat_tests}
 use Rattle.std.proofs.lemmas.List.Splits.{slice_split_first}
 use Rattle.std.proofs.lemmas.Str.Pattern.{IsSplitOnceResult, split_once_first}
-use Rattle.language_tags.specs.Pieces.{is_dash, pieces, joined, dashed, lowercase}
+use Rattle.language_tags.specs.Pieces.{is_dash, pieces, dashed, lowercase}
 
 -- a text without a dash is one piece
 pub no_dash : (text : List ℕ) → position_or_len is_dash text ≡ length text → pieces text ≡ text ∷ []
@@ -63,7 +63,7 @@ pub pieces-lowercase : (text : List ℕ) → pieces (lowercase text) ≡ map low
 pieces-lowercase [] = refl
 pieces-lowercase (c ∷ text) =
     (λ i. cond (dash_lowercase c i) ([] ∷ pieces-lowercase text i)
-        (onto_first (to_ascii_lowercase c) (pieces-lowercase text i)))
+    (onto_first (to_ascii_lowercase c) (pieces-lowercase text i)))
     ∙ by (is_dash c) (pieces text)
   where
     by : (b : Bool) (ps : List (List ℕ)) → cond b ([] ∷ map lowercase ps) (onto_first (to_ascii_lowercase c) (map lowercase ps))

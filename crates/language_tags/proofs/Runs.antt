@@ -1,21 +1,20 @@
 -- The scanner passes whole sections, and what it answers is what the passed pieces say.
-use Rattle.std.proofs.Common.{◌≡◌, ℕ, zero, suc, ◌+◌, ◌<◌, ◌≤◌, Bool, true, false, ◌⊎◌, inl, inr, List, [], ◌∷◌, ◌++◌, Option, Some, None, Result, Ok, Err, IfOk, length, refl, sym, ap, ◌∙◌, cond, arith, add-one, add_assoc, append_assoc, append-nil, length-append, nat_le, subst, add-suc}
+use Rattle.std.proofs.Common.{◌≡◌, ℕ, suc, ◌+◌, ◌≤◌, Bool, true, false, ◌⊎◌, inl, inr, List, [], ◌∷◌, ◌++◌, Option, Some, None, Result, Ok, Err, IfOk, length, refl, sym, ap, ◌∙◌, cond, arith, append_assoc, append-nil, nat_le, subst}
 use Rattle.std.specs.Prelude.{◌&&◌, IfSome}
 use Rattle.std.specs.Char.{is_ascii_lowercase}
 use Rattle.std.specs.List.{AllByRecursion, flat_map, list_all}
-use Rattle.std.specs.Str.{byte}
 use Rattle.std.proofs.lemmas.Bool.Decides.{nat_tests}
-use Rattle.language_tags.specs.Scan.{and_then, at_last, at_start, ends_at, is_small_region, is_small_script, no_ends, scanned, scanned_from, stage_after}
+use Rattle.language_tags.specs.Scan.{and_then, at_last, at_start, ends_at, is_small_region, is_small_script, scanned, scanned_from, stage_after}
 use Rattle.language_tags.specs.Shapes.{IsExtension, is_content, is_extlang, is_language, is_private, is_variant}
-use Rattle.language_tags.specs.Tag.{Extension as Run, at_most_one, extension_pieces, private_pieces}
+use Rattle.language_tags.specs.Tag.{Extension as Run, at_most_one, extension_pieces}
 use Rattle.language_tags.specs.declared.ends.Ends.{Ends}
 use Rattle.language_tags.specs.declared.error.ParseError.{ParseError}
-use Rattle.language_tags.specs.declared.error.ParseError.TheVariants.{EmptyExtension, EmptyPrivateUse, InvalidLanguage}
+use Rattle.language_tags.specs.declared.error.ParseError.TheVariants.{InvalidLanguage}
 use Rattle.language_tags.specs.declared.stage.Stage.{Stage}
-use Rattle.language_tags.specs.declared.stage.Stage.TheVariants.{Start, LongLanguage, Extlangs, Script, Region, Variant, Singleton, Extension, X, Private}
+use Rattle.language_tags.specs.declared.stage.Stage.TheVariants.{Start, LongLanguage, Extlangs, Script, Region, Variant, Singleton, Extension, Private}
 use Rattle.language_tags.proofs.Flat.{Flat, ends-grown, ends_of, grown, nothing, place, place-grown, seen, seen-grown}
 use Rattle.language_tags.proofs.Holds.{Holds, Leads, stage_after_leads}
-use Rattle.language_tags.proofs.Forward.{rank, run, run_step, sized, to_content, to_extlang, to_private, to_region, to_script, to_singleton, to_variant, to_x}
+use Rattle.language_tags.proofs.Forward.{rank, run, run_step, sized, to_content, to_extlang, to_private, to_region, to_script, to_singleton, to_variant}
 
 -- pieces lead to a stage in these bounds and to sections, whatever follows
 pub record Passes (low high : ℕ) (s : Stage) (f : Flat) (ps : List (List ℕ)) (g : Flat) : Type 0 where
@@ -101,6 +100,7 @@ pass_language l e rest =
         choice : (b : Bool) → cond {A = Result Stage ParseError} b (Ok (Extlangs 0)) (Ok LongLanguage) ≡ Ok (cond b (Extlangs 0) LongLanguage)
         choice true = refl
         choice false = refl
+
     by : (b : Bool) → run (cond b (Extlangs 0) LongLanguage) (grown (cond b (Extlangs 0) LongLanguage) nothing l) rest
         ≡ run (cond b (Extlangs 0) LongLanguage) (only l) rest
     by true = refl
@@ -239,6 +239,7 @@ run_passed (x ∷ ps) s f h = by (run_passed ps) (stage_after s x) (stage_after_
       holds = h.holds;
       all = h.all ∙ ap (λ qs. qs ++ ps) (seen-grown next f x leads.1) ∙ append_assoc (seen f) (x ∷ []) ps;
     }
+
     by : ((t : Stage) (g : Flat) → Holds t g → IfOk (run t g ps) (Passed g ps))
         → (r : Result Stage ParseError) → IfOk r (Leads f x) → IfOk (and_then (λ next. run next (grown next f x) ps) r) (Passed f (x ∷ ps))
     by rest (Err fault) leads = tt

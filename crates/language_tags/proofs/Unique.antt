@@ -1,8 +1,8 @@
 -- A text has one tag, and a tag's text has that tag.
-use Rattle.std.proofs.Common.{◌≡◌, ◌≢◌, ℕ, Bool, true, false, List, [], ◌∷◌, ◌++◌, Option, Some, None, Result, Ok, Err, length, refl, sym, ap, ◌∙◌, cond, arith, subst, map, drop}
-use Rattle.std.specs.Prelude.{IfSome, IsTrue, codes}
+use Rattle.std.proofs.Common.{◌≡◌, ℕ, Bool, true, false, List, [], ◌∷◌, ◌++◌, Option, Some, None, Result, Ok, Err, refl, sym, ap, ◌∙◌, cond, arith, map, drop}
+use Rattle.std.specs.Prelude.{IfSome, IsTrue}
 use Rattle.std.specs.Char.{to_ascii_lowercase}
-use Rattle.std.specs.List.{find, flat_map, join_with_byte, list_all}
+use Rattle.std.specs.List.{find}
 use Rattle.std.specs.Option.{option_map}
 use Rattle.std.specs.Str.{byte, bytes_eq}
 use Rattle.std.proofs.lemmas.Bool.Decides.{nat_tests}
@@ -13,8 +13,8 @@ use Rattle.language_tags.specs.Grandfathered.{grandfathered, grandfathereds}
 use Rattle.language_tags.specs.Kept.{first_piece, grouped}
 use Rattle.language_tags.specs.Pieces.{joined, lowercase, pieces, titlecase, uppercase}
 use Rattle.language_tags.specs.Shapes.{AreParts, is_region, is_script}
-use Rattle.language_tags.specs.Tag.{Parts, Tag, Whole, Plain, at_most_one, extension_pieces, print, private_pieces, written}
-use Rattle.language_tags.specs.TagOf.{BeginsOtherwise, IsLangtag, IsTagOf, StandsBehindX, langtag, private_use, whole}
+use Rattle.language_tags.specs.Tag.{Parts, Tag, Whole, Plain, at_most_one, print, private_pieces, written}
+use Rattle.language_tags.specs.TagOf.{IsLangtag, IsTagOf, langtag, private_use, whole}
 use Rattle.language_tags.specs.declared.error.ParseError.{ParseError}
 use Rattle.language_tags.specs.declared.stage.Stage.{Stage}
 use Rattle.language_tags.specs.declared.stage.Stage.TheVariants.{Start}

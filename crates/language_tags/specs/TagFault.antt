@@ -1,5 +1,5 @@
 -- What is wrong with a text that no tag has: RFC 5646, section 2.1, read from the left.
-use Rattle.std.specs.Prelude.{◌≡◌, ◌≢◌, ℕ, ◌+◌, ◌<◌, ◌≤◌, Bool, ◌||◌, false, List, [], ◌∷◌, length, take, slice_get, Some, None, IsTrue}
+use Rattle.std.specs.Prelude.{◌≡◌, ◌≢◌, ℕ, ◌+◌, ◌<◌, ◌≤◌, Bool, ◌||◌, false, List, [], length, take, slice_get, Some, None, IsTrue}
 use Rattle.std.specs.List.{list_all}
 use Rattle.language_tags.specs.Begun.{Begun, EndInThirdExtlang, EndsInSingleton, EndsInX}
 use Rattle.language_tags.specs.Grandfathered.{grandfathered}

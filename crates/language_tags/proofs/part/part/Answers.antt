@@ -1,5 +1,5 @@
-use Rattle.std.proofs.Common.{arith, ◌≡◌, ◌<◌}
-use Rattle.language_tags.proofs.PartLaws.{no_part, part_is}
+use Rattle.std.proofs.Common.{arith}
+use Rattle.language_tags.proofs.PartLaws.{part_is}
 use Rattle.language_tags.proofs.part.part.Goals as goal
 
 pub returns-else-start-end : goal.returns-else-start-end

@@ -1,4 +1,4 @@
-use Rattle.std.proofs.Common.{◌≡◌, ◌++◌, map, List, ℕ}
+use Rattle.std.proofs.Common.{map}
 use Rattle.language_tags.specs.Pieces.{lowercase, pieces}
 use Rattle.language_tags.proofs.PrivateLaws.{Checked}
 use Rattle.language_tags.proofs.private_use.check.Given as goal

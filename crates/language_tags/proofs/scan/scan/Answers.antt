@@ -1,5 +1,5 @@
 -- A text's pieces in lower case are those of the text in lower case.
-use Rattle.std.proofs.Common.{◌≡◌, ◌+◌, map, length, rules, ap, sym, ◌∙◌, zero-add}
+use Rattle.std.proofs.Common.{◌≡◌, map, length, rules, ap, sym, ◌∙◌, zero-add}
 use Rattle.language_tags.specs.Pieces.{dashed, lowercase, pieces}
 use Rattle.language_tags.specs.Scan.{no_ends, scanned_from}
 use Rattle.language_tags.specs.declared.stage.Stage.TheVariants.{Start}

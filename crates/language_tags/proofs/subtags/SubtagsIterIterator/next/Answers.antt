@@ -1,5 +1,5 @@
 -- What `split_once` gives is the first piece, and the text of the others.
-use Rattle.std.proofs.Common.{◌≡◌, ◌∷◌, sym, ap, ◌∙◌, Some, None}
+use Rattle.std.proofs.Common.{◌∷◌, sym, ap, ◌∙◌, Some, None}
 use Rattle.std.specs.Option.{option_copied}
 use Rattle.language_tags.specs.Pieces.{pieces, pieces_of}
 use Rattle.language_tags.proofs.PieceLaws.{fewer, first_piece}

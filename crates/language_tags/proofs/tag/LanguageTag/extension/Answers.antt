@@ -1,4 +1,4 @@
-use Rattle.std.proofs.Common.{arith, string_bytes}
+use Rattle.std.proofs.Common.{string_bytes}
 use Rattle.language_tags.proofs.KeptUse.{extensions-text, kept-ascii, kept-within, variant-extension}
 use Rattle.language_tags.proofs.tag.LanguageTag.extension.Goals as goal
 

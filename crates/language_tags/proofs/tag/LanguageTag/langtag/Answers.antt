@@ -1,4 +1,4 @@
-use Rattle.std.proofs.Common.{◌≡◌, sym, subst, MatchResult, Err, rules}
+use Rattle.std.proofs.Common.{sym}
 use Rattle.std.proofs.lemmas.Result.{MatchResult-at_err, err_from_is_err_and}
 use Rattle.language_tags.specs.Pieces.{lowercase, pieces}
 use Rattle.language_tags.proofs.Faults.{Scanned, scanned_law}

@@ -1,5 +1,5 @@
 -- A text is a grandfathered one, or begins with `x-`, or is a langtag.
-use Rattle.std.proofs.Common.{sym, IfErr, Some, None}
+use Rattle.std.proofs.Common.{sym}
 use Rattle.std.proofs.lemmas.Result.{IfOk-weaker, MatchResult-weaker}
 use Rattle.language_tags.specs.Pieces.{lowercase}
 use Rattle.language_tags.specs.TagFault.{behind_x, in_pieces}

@@ -1,4 +1,3 @@
-use Rattle.std.proofs.Common.{◌≡◌, sym}
 use Rattle.std.proofs.lemmas.Result.{err_from_is_err_and}
 use Rattle.language_tags.specs.Pieces.{lowercase}
 use Rattle.language_tags.proofs.PrivateLaws.{private-ascii}

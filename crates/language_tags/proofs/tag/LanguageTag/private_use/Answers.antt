@@ -1,4 +1,4 @@
-use Rattle.std.proofs.Common.{◌≡◌, ◌∙◌, arith, ap, sym, string_bytes}
+use Rattle.std.proofs.Common.{◌∙◌, arith, ap, sym, string_bytes}
 use Rattle.std.proofs.lemmas.Str.Pattern.{starts_text}
 use Rattle.std.specs.Prelude.{codes}
 use Rattle.language_tags.specs.Kept.{tag_at}

@@ -1,4 +1,4 @@
-use Rattle.std.proofs.Common.{◌∙◌, arith, string_bytes, ◌≡◌, [], List, ℕ}
+use Rattle.std.proofs.Common.{◌∙◌, string_bytes}
 use Rattle.language_tags.specs.Tag.{private_of}
 use Rattle.language_tags.proofs.KeptUse.{private-cut, private-rest}
 use Rattle.language_tags.proofs.tag.LanguageTag.private_use_subtags.Goals as goal

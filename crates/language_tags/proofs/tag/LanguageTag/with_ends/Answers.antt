@@ -1,6 +1,5 @@
-use Rattle.std.proofs.Common.{◌≡◌, ◌∙◌, ap, sym, string_bytes}
-use Rattle.language_tags.specs.Tag.{Plain, written}
-use Rattle.language_tags.specs.Pieces.{joined}
+use Rattle.std.proofs.Common.{◌∙◌, ap, string_bytes}
+use Rattle.language_tags.specs.Tag.{Plain}
 use Rattle.language_tags.proofs.KeptUse.{scanned-case, scanned-keeps, scanned-parts, scanned-region, scanned-script, scanned-utf8, scanned-within, was_scanned}
 use Rattle.language_tags.proofs.tag.LanguageTag.with_ends.Goals as goal
 
@@ -28,6 +27,6 @@ returns c =
       s.parts,
       record { shapes = s.shapes; in_order = s.in_order },
       ap Plain (scanned-parts c.args.text.now c.args.ends c.requires (string_bytes c.from_utf8_unchecked.result)
-      (ap (λ v. v.items) c.from_utf8_unchecked.ensures.value
-      ∙ scanned-case c.args.text.now c.args.ends c.requires c.as_bytes.result.now c.in_ok-bytes.bytes.items c.as_bytes.ensures.value c.in_ok-bytes.ensures)),
+          (ap (λ v. v.items) c.from_utf8_unchecked.ensures.value
+          ∙ scanned-case c.args.text.now c.args.ends c.requires c.as_bytes.result.now c.in_ok-bytes.bytes.items c.as_bytes.ensures.value c.in_ok-bytes.ensures)),
     )
