@@ -161,7 +161,7 @@ module _ (o : Option Ends) (text t : List ℕ) (ends : Ends) (g : Tag) (inv : Is
       ∙ ap (drop ends.extension) (text_is o text t ends g inv is same view) ∙ at-private q ends k.ends_are)
       ∙ ap (λ h. part_text (private_pieces (private_of h))) (tag_is o text t ends g inv is same view)
 
-begins-x : (t : List ℕ) → starts_with nat_eq t (codes "x-") ≡ true → codes "x-" ++ drop 2 t ≡ t
+pub begins-x : (t : List ℕ) → starts_with nat_eq t (codes "x-") ≡ true → codes "x-" ++ drop 2 t ≡ t
 begins-x t e = ap (λ a. a ++ drop 2 t) ((bytes_eq-Decides (codes "x-") (take 2 t)).0 e) ∙ take-append-drop 2 t
 
 joined-x : (ps : List (List ℕ)) → 0 < length ps → part_text (private_pieces ps) ≡ Some (codes "x-" ++ joined ps)

@@ -16,3 +16,4 @@ mod Unique
 mod NeverBoth
 mod AgreeLaws
 mod KeptUse
+mod Neither

@@ -13,6 +13,7 @@ use crate::{ParseError, SubtagsIter, TagJsonError};
 use serde_json::Value;
 use std::alloc::{AllocError, Global};
 use std::fmt;
+use std::hash::{Hash, Hasher};
 use std::marker::Model;
 
 /// A language tag. Contracts see it as a `Tag`.
@@ -356,6 +357,21 @@ impl Eq for LanguageTag {
     ghost use Rattle.language_tags.specs.Equality.{key};
 
     ghost laws = { on_equiv key nat_list_eq_equiv };
+}
+
+impl Hash for LanguageTag {
+    ghost use Rattle.std.specs.Hash as fed;
+    ghost use Rattle.std.proofs.Common.{ap};
+    ghost use Rattle.language_tags.specs.EqualityLaws.{same_print};
+    ghost use Rattle.language_tags.specs.Tag.{print};
+
+    ghost hash_input = { λ tag. fed.str (print tag) };
+
+    ghost respects_eq = { λ s t e. ap fed.str (same_print s t e) };
+
+    fn hash<H: Hasher>(&self, state: &mut H) {
+        self.as_str().hash(state);
+    }
 }
 
 /// Whether a part is missing or is the same in the other tag.
