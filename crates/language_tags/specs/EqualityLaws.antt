@@ -1,5 +1,5 @@
 -- Tags that are equal print the same text.
-use Rattle.std.proofs.Common.{◌≡◌, ℕ, List, true, drop, refl, sym, ap, ◌∙◌}
+use Rattle.std.proofs.Common.{◌≡◌, drop, refl, sym, ap, ◌∙◌}
 use Rattle.std.specs.Prelude.{IsTrue}
 use Rattle.std.specs.Str.{bytes_eq}
 use Rattle.std.proofs.lemmas.Slice.Eq.{bytes_eq-Decides}
