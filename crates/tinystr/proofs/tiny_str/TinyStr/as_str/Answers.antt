@@ -1,6 +1,6 @@
 use Rattle.std.proofs.Common.{◌≡◌, ◌∙◌, sym, ap, arith, length}
 use Rattle.std.proofs.lemmas.Str.{IsUtf8-from_ascii, IsAscii-take, chars-IsAscii}
-use Rattle.std.specs.Str.{chars, IsAscii}
+use Rattle.std.specs.Str.{IsAscii}
 use Rattle.tinystr.specs.Text.{unpadded}
 use Rattle.tinystr.proofs.Padding.{held-text, take-unpadded, length-unpadded-le}
 use Rattle.tinystr.proofs.tiny_str.TinyStr.as_str.Goals as goal

@@ -1,0 +1,9 @@
+pub mod Cuts
+pub mod Faults
+pub mod Identifier
+pub mod Outer
+pub mod Parts
+pub mod Pieces
+pub mod Reading
+pub mod Subtags
+pub mod Taking

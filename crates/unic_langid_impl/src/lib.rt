@@ -1,0 +1,15 @@
+//! Unicode language identifiers (UTS 35, Part 1, section 3).
+#![tactic(auto)]
+
+/// Why bytes are no identifier.
+mod errors;
+/// The identifier.
+mod identifier;
+/// What reads identifiers, piece by piece.
+pub mod parser;
+/// The subtags.
+pub mod subtags;
+
+pub use errors::LanguageIdentifierError;
+pub use identifier::{LanguageIdentifier, VariantsIter};
+pub use parser::{ParserError, SubtagPieces};
