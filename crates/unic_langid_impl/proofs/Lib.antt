@@ -1,2 +1,4 @@
 pub mod PieceLemmas
+pub mod ReadingLemmas
 pub mod SubtagLemmas
+pub mod VariantLemmas

@@ -1,4 +1,4 @@
-ghost use Rattle.std.specs.Prelude.{◌≡◌, ◌↔◌, [], IfOk, IfErr, OnOk, OnErr, IsTrue, Contains};
+ghost use Rattle.std.specs.Prelude.{◌≡◌, ◌↔◌, false, [], IfOk, IfErr, OnOk, OnErr, IsTrue, Contains};
 ghost use Rattle.unic_langid_impl.specs.Reading.{IsAscendingOf, Reads, id_of};
 ghost use Rattle.unic_langid_impl.specs.Faults.{IsFaultOf, RefusesPieces};
 ghost use Rattle.unic_langid_impl.specs.Identifier.{Ascend};
