@@ -1,9 +1,13 @@
 pub mod Cuts
 pub mod Faults
 pub mod Identifier
+pub mod JsonFaults
+pub mod Order
+pub mod OrderLaws
 pub mod Outer
 pub mod Parts
 pub mod Pieces
+pub mod Printing
 pub mod Reading
 pub mod Subtags
 pub mod Taking

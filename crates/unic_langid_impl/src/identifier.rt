@@ -1,16 +1,24 @@
-ghost use Rattle.std.specs.Prelude.{◌≡◌, ◌↔◌, false, [], IfOk, IfErr, OnOk, OnErr, IsTrue, Contains};
+ghost use Rattle.std.specs.Prelude.{◌≡◌, ◌↔◌, false, [], Ok, IfOk, IfErr, OnOk, OnErr, IsTrue, Contains};
+ghost use Rattle.std.specs.Result.{OkIff};
 ghost use Rattle.unic_langid_impl.specs.Reading.{IsAscendingOf, Reads, id_of};
 ghost use Rattle.unic_langid_impl.specs.Faults.{IsFaultOf, RefusesPieces};
 ghost use Rattle.unic_langid_impl.specs.Identifier.{Ascend};
+ghost use Rattle.unic_langid_impl.specs.Parts.{FitVariants};
+ghost use Rattle.unic_langid_impl.specs.Subtags.{Fits};
 
-use crate::LanguageIdentifierError;
+use crate::{LanguageIdentifierError, ParserError};
 use crate::parser::{self, SubtagPieces};
 use crate::subtags::{Language, Region, Script, Variant};
 use std::alloc::{AllocError, Global};
 use std::marker::Model;
 
+mod json;
+mod order;
+mod print;
 mod variants;
 
+pub use json::IdJsonError;
+pub use print::canonicalize;
 pub use variants::VariantsIter;
 pub(crate) use variants::ascending;
 
@@ -91,6 +99,28 @@ impl LanguageIdentifier {
         }
     }
 
+    /// The identifier of these subtags, of which the variants must ascend.
+    pub fn from_raw_parts(
+        language: Language,
+        script: Option<Script>,
+        region: Option<Region>,
+        variants: Vec<Variant>,
+    ) -> Result<Self, LanguageIdentifierError>
+        ensures value { OkIff result (Ascend variants.items) (record {
+          language = language;
+          script = script;
+          region = region;
+          variants = variants.items;
+        }) }
+        ensures cause { IfErr result
+            (λ error. error ≡ LanguageIdentifierError.ParserError ParserError.InvalidSubtag) }
+    {
+        if !ascend(variants.as_slice()) {
+            return Err(LanguageIdentifierError::ParserError(ParserError::InvalidSubtag));
+        }
+        Ok(LanguageIdentifier::of_ascending(language, script, region, variants))
+    }
+
     /// The identifier of these subtags, of which the variants ascend.
     pub(crate) fn of_ascending(
         language: Language,
@@ -113,4 +143,124 @@ impl LanguageIdentifier {
             variants,
         }
     }
+
+    /// The subtags.
+    pub fn into_parts(self) -> (Language, Option<Script>, Option<Region>, Vec<Variant>)
+        ensures language { result.0 ≡ self.language }
+        ensures script { result.1 ≡ self.script }
+        ensures region { result.2 ≡ self.region }
+        ensures variants { result.3.items ≡ self.variants }
+        ensures ascend { Ascend self.variants }
+    {
+        (self.language, self.script, self.region, self.variants)
+    }
+
+    /// The variants in order.
+    pub fn variants(&self) -> VariantsIter<'_>
+        ensures items { result ≡ self.now.variants }
+        ensures ascend { Ascend self.now.variants }
+    {
+        VariantsIter::new(self.variants.as_slice())
+    }
+
+    /// Whether it has this variant.
+    pub fn has_variant(&self, variant: Variant) -> bool
+        ensures { IsTrue result ↔ Contains self.now.variants variant }
+    {
+        self.variants.as_slice().binary_search(&variant).is_ok()
+    }
+
+    /// Puts these variants in the place of its own, each once. Where memory runs out it stays as it was.
+    pub fn set_variants(&mut self, variants: &[Variant]) -> Result<(), AllocError>
+        ensures ok { OnOk result
+            (HasParts self.old.language self.old.script self.old.region variants.now self.new) }
+        ensures err { OnErr result (self.new ≡ self.old) }
+    {
+        let variants = variants.to_vec(*self.variants.allocator())?;
+        self.variants = ascending(variants);
+        Ok(())
+    }
+
+    /// Takes its variants away.
+    pub fn clear_variants(&mut self)
+        ensures { self.new ≡ record self.old { variants = [] } }
+    {
+        self.variants.clear();
+    }
+
+    /// Whether each part of the two is equal, or missing on a side that is a range.
+    pub fn matches(
+        &self,
+        other: &LanguageIdentifier,
+        self_as_range: bool,
+        other_as_range: bool,
+    ) -> bool
+        ensures { IsTrue result ↔ Matches self.now other.now self_as_range other_as_range }
+    {
+        self.language
+            .matches(other.language, self_as_range, other_as_range)
+            && scripts_fit(self.script, other.script, self_as_range, other_as_range)
+            && regions_fit(self.region, other.region, self_as_range, other_as_range)
+            && variants_fit(
+                self.variants.as_slice(),
+                other.variants.as_slice(),
+                self_as_range,
+                other_as_range,
+            )
+    }
+
+    /// An equal identifier.
+    pub fn try_clone(&self, alloc: Global) -> Result<Self, AllocError>
+        ensures { IfOk result (λ copy. copy ≡ self.now) }
+    {
+        Ok(LanguageIdentifier {
+            language: self.language,
+            script: self.script,
+            region: self.region,
+            variants: self.variants.as_slice().to_vec(alloc)?,
+        })
+    }
+}
+
+/// Whether the two scripts are equal, or one is missing whose side is a range.
+fn scripts_fit(
+    one: Option<Script>,
+    other: Option<Script>,
+    one_as_range: bool,
+    other_as_range: bool,
+) -> bool
+    ensures { IsTrue result ↔ Fits one other one_as_range other_as_range }
+{
+    (one_as_range && one.is_none()) || (other_as_range && other.is_none()) || one == other
+}
+
+/// The same of regions.
+fn regions_fit(
+    one: Option<Region>,
+    other: Option<Region>,
+    one_as_range: bool,
+    other_as_range: bool,
+) -> bool
+    ensures { IsTrue result ↔ Fits one other one_as_range other_as_range }
+{
+    (one_as_range && one.is_none()) || (other_as_range && other.is_none()) || one == other
+}
+
+/// The same of variants.
+fn variants_fit(
+    one: &[Variant],
+    other: &[Variant],
+    one_as_range: bool,
+    other_as_range: bool,
+) -> bool
+    ensures { IsTrue result ↔ FitVariants one.now other.now one_as_range other_as_range }
+{
+    (one_as_range && one.is_empty()) || (other_as_range && other.is_empty()) || one == other
+}
+
+/// Whether each variant is less than those behind it.
+fn ascend(variants: &[Variant]) -> bool
+    ensures { IsTrue result ↔ Ascend variants.now }
+{
+    variants.iter().zip(variants.iter().skip(1)).all(|(one, next)| one < next)
 }

@@ -11,5 +11,5 @@ pub mod parser;
 pub mod subtags;
 
 pub use errors::LanguageIdentifierError;
-pub use identifier::{LanguageIdentifier, VariantsIter};
+pub use identifier::{IdJsonError, LanguageIdentifier, VariantsIter, canonicalize};
 pub use parser::{ParserError, SubtagPieces};
