@@ -1,4 +1,5 @@
 pub mod PieceLemmas
+pub mod PrintLemmas
 pub mod ReadingLemmas
 pub mod SubtagLemmas
 pub mod VariantLemmas

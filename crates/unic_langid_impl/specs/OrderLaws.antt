@@ -1,10 +1,9 @@
 -- The laws of how identifiers compare: an equivalence, a total order that agrees with it, and equal ones are hashed alike.
 use Rattle.std.proofs.Common.{◌≡◌, ℕ, Bool, true, false, List, Option, Some, None, refl, sym, ap, nat_eq}
-use Rattle.std.specs.Prelude.{◌&&◌}
+use Rattle.std.specs.Prelude.{◌&&◌, IsTrue}
 use Rattle.std.specs.Bool.{Decides}
 use Rattle.std.specs.Cmp.{IsEquivalence, IsPartialOrder, IsTotalOrder, and_equiv, both_tied, first_so, on_equiv, on_total, po, second_so, then_total}
 use Rattle.std.specs.Cmp.Lexicographic.{bytes_decides, lists_equiv, lists_ties, lists_total, nat_list_cmp_total, nat_list_eq_equiv, options_equiv, options_total, pointwise, pointwise_decides, slice_cmp, texts_ties}
-use Rattle.std.specs.Hash as fed
 use Rattle.std.specs.Option.{option_cmp, option_eq}
 use Rattle.std.specs.Ordering.{eq_by_cmp}
 use Rattle.unic_langid_impl.specs.Identifier.{Identifier, text_cmp}
@@ -59,5 +58,5 @@ identifier_eq-same a b e =
     let variants = (pointwise_decides bytes_decides a.variants b.variants).0 (second_so _ (pointwise text_eq a.variants b.variants) e) in
     λ i. record { language = language i; script = script i; region = region i; variants = variants i }
 
-pub identifier_eq-Alike : fed.Alike identifier_eq identifier_writes
-identifier_eq-Alike = record { fed = λ a b e. ap identifier_writes (identifier_eq-same a b e) }
+pub identifier_eq-writes : (a b : Identifier) → IsTrue (identifier_eq a b) → identifier_writes a ≡ identifier_writes b
+identifier_eq-writes a b e = ap identifier_writes (identifier_eq-same a b e)

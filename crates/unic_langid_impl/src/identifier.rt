@@ -10,6 +10,7 @@ use crate::{LanguageIdentifierError, ParserError};
 use crate::parser::{self, SubtagPieces};
 use crate::subtags::{Language, Region, Script, Variant};
 use std::alloc::{AllocError, Global};
+use std::cmp::Ordering;
 use std::marker::Model;
 
 mod json;
@@ -255,12 +256,27 @@ fn variants_fit(
 ) -> bool
     ensures { IsTrue result ↔ FitVariants one.now other.now one_as_range other_as_range }
 {
-    (one_as_range && one.is_empty()) || (other_as_range && other.is_empty()) || one == other
+    (one_as_range && one.is_empty())
+        || (other_as_range && other.is_empty())
+        || same_variants(one, other)
 }
 
 /// Whether each variant is less than those behind it.
 fn ascend(variants: &[Variant]) -> bool
     ensures { IsTrue result ↔ Ascend variants.now }
 {
-    variants.iter().zip(variants.iter().skip(1)).all(|(one, next)| one < next)
+    for next in 1..variants.len() {
+        match variants[next - 1].cmp(&variants[next]) {
+            Ordering::Less => {}
+            _ => return false,
+        }
+    }
+    true
+}
+
+/// Whether the two are the same.
+fn same_variants(one: &[Variant], other: &[Variant]) -> bool
+    ensures { IsTrue result ↔ (one.now ≡ other.now) }
+{
+    one == other
 }

@@ -1,9 +1,9 @@
-ghost use Rattle.std.specs.Prelude.{◌≡◌, IfOk, IfErr, IsSomeAnd};
+ghost use Rattle.std.specs.Prelude.{◌≡◌, Some, IfOk, IfErr, IsSomeAnd};
 ghost use Rattle.serde_json.specs.Data.{string};
 ghost use Rattle.serde_json.specs.Find.{as_str};
 ghost use Rattle.serde_json.specs.View.{view};
 ghost use Rattle.unic_langid_impl.specs.Identifier.{print};
-ghost use Rattle.unic_langid_impl.specs.JsonFaults.{IsJsonFault};
+ghost use Rattle.unic_langid_impl.specs.JsonFaults.{IsJsonFault, json_error_of};
 ghost use Rattle.unic_langid_impl.specs.Reading.{id_of};
 
 use crate::parser::parse_language_identifier;
@@ -35,6 +35,16 @@ impl IdJsonError {
             IdJsonError::NoMemory => "out of memory",
         }
     }
+
+    /// The error of the parser as one of a JSON value.
+    fn of_parser(error: ParserError) -> IdJsonError
+        ensures { result ≡ json_error_of error }
+    {
+        match error {
+            ParserError::NoMemory => IdJsonError::NoMemory,
+            error => IdJsonError::Parse(error),
+        }
+    }
 }
 
 impl LanguageIdentifier {
@@ -46,11 +56,7 @@ impl LanguageIdentifier {
         let Some(text) = value.as_str() else {
             return Err(IdJsonError::NotText);
         };
-        match parse_language_identifier(alloc, text.as_bytes()) {
-            Ok(identifier) => Ok(identifier),
-            Err(ParserError::NoMemory) => Err(IdJsonError::NoMemory),
-            Err(error) => Err(IdJsonError::Parse(error)),
-        }
+        from_text(alloc, text)
     }
 
     /// The printed text as a JSON string.
@@ -59,4 +65,12 @@ impl LanguageIdentifier {
     {
         Ok(Value::String(self.to_string(alloc)?))
     }
+}
+
+/// The identifier that the text of a JSON string is.
+fn from_text(alloc: Global, text: &str) -> Result<LanguageIdentifier, IdJsonError>
+    ensures ok { IfOk result (id_of text.now) }
+    ensures err { IfErr result (IsJsonFault (Some text.now)) }
+{
+    parse_language_identifier(alloc, text.as_bytes()).map_err(IdJsonError::of_parser)
 }

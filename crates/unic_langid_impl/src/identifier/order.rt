@@ -2,7 +2,7 @@
 ghost use Rattle.std.specs.Prelude.{Some, refl};
 ghost use Rattle.std.specs.Cmp.{partial_equiv_from_equiv};
 ghost use Rattle.unic_langid_impl.specs.Order.{identifier_cmp, identifier_eq, identifier_writes};
-ghost use Rattle.unic_langid_impl.specs.OrderLaws.{identifier_cmp-eq, identifier_cmp_po, identifier_cmp_total, identifier_eq-Alike, identifier_eq_equiv};
+ghost use Rattle.unic_langid_impl.specs.OrderLaws.{identifier_cmp-eq, identifier_cmp_po, identifier_cmp_total, identifier_eq-writes, identifier_eq_equiv};
 
 use crate::LanguageIdentifier;
 use std::cmp::Ordering;
@@ -56,7 +56,7 @@ impl Ord for LanguageIdentifier {
 impl Hash for LanguageIdentifier {
     ghost hash_input = { identifier_writes };
 
-    ghost respects_eq = { identifier_eq-Alike };
+    ghost respects_eq = { identifier_eq-writes };
 
     fn hash<H: Hasher>(&self, state: &mut H) {
         self.language.hash(state);

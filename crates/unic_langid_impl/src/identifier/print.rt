@@ -1,6 +1,6 @@
-ghost use Rattle.std.specs.Prelude.{◌≡◌, ◌↔◌, ℕ, List, Some, IsTrue, IfOk, IfErr, IfSome, drop};
+ghost use Rattle.std.specs.Prelude.{◌≡◌, ◌≢◌, ◌↔◌, ◌∷◌, ◌++◌, ℕ, List, Some, IsTrue, IfOk, IfErr, MatchOption, drop};
 ghost use Rattle.std.specs.Option.{option_copied};
-ghost use Rattle.std.specs.Str.{chars};
+ghost use Rattle.std.specs.Str.{byte};
 ghost use Rattle.unic_langid_impl.specs.Identifier.{Identifier, print};
 ghost use Rattle.unic_langid_impl.specs.Faults.{IsFaultOf};
 ghost use Rattle.unic_langid_impl.specs.Pieces.{first_piece};
@@ -30,17 +30,37 @@ impl LanguageIdentifier {
     pub fn eq_str(&self, other: &str) -> bool
         ensures { IsTrue result ↔ (other.now ≡ print self.now) }
     {
-        let Some(mut rest) = other.strip_prefix(self.language.as_str()) else {
+        let language = self.language.as_str().as_bytes();
+        let Some(mut rest) = behind_prefix(other.as_bytes(), language) else {
             return false;
         };
         let mut subtags = Behind::of(self);
         while let Some(subtag) = subtags.next() {
-            match rest.strip_prefix('-').and_then(|rest| rest.strip_prefix(subtag)) {
+            match behind_subtag(rest, subtag.as_bytes()) {
                 Some(behind) => rest = behind,
                 None => return false,
             }
         }
         rest.is_empty()
+    }
+}
+
+/// What stands behind the prefix, where the text begins with it.
+fn behind_prefix<'a>(text: &'a [u8], prefix: &[u8]) -> Option<&'a [u8]>
+    ensures { MatchOption result ((rest : List ℕ) → text.now ≢ prefix.now ++ rest)
+        (λ rest. text.now ≡ prefix.now ++ rest.now) }
+{
+    text.strip_prefix(prefix)
+}
+
+/// What stands behind `-` and the subtag, where the text begins with them.
+fn behind_subtag<'a>(text: &'a [u8], subtag: &[u8]) -> Option<&'a [u8]>
+    ensures { MatchOption result ((rest : List ℕ) → text.now ≢ byte "-" ∷ (subtag.now ++ rest))
+        (λ rest. text.now ≡ byte "-" ∷ (subtag.now ++ rest.now)) }
+{
+    match text {
+        [b'-', rest @ ..] => behind_prefix(rest, subtag),
+        _ => None,
     }
 }
 
