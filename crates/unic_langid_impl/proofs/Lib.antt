@@ -1,3 +1,4 @@
+pub mod Determined
 pub mod PieceLemmas
 pub mod PrintLemmas
 pub mod ReadingLemmas

@@ -132,7 +132,7 @@ variants-false (p ∷ front) behind piece h = rw (variants-false front behind pi
     and_false false = refl
 
 module _ (is : List ℕ → Bool) (case : List ℕ → List ℕ) where
-  shaped-from : (subtag piece : Option (List ℕ)) → IfSome subtag (λ t. is t ≡ true) → subtag ≡ option_map case piece
+  pub shaped-from : (subtag piece : Option (List ℕ)) → IfSome subtag (λ t. is t ≡ true) → subtag ≡ option_map case piece
       → IfSome piece (λ p. is (case p) ≡ true)
   shaped-from subtag None h e = tt
   shaped-from subtag (Some p) h e = subst (λ o. IfSome o (λ t. is t ≡ true)) e h

@@ -48,7 +48,7 @@ ascend-IsSorted texts h k d low high =
     (nat_list_cmp_total.antisymm (get_or texts (k + 1) d) (get_or texts k d)
     ∙ ap ordering_reverse (Less-from_sorted text_cmp texts k (k + 1) d h (omega arith) high))
 
-texts_tie : (x y : List ℕ) → text_cmp x y ≡ Equal → x ≡ y
+pub texts_tie : (x y : List ℕ) → text_cmp x y ≡ Equal → x ≡ y
 texts_tie = slice_cmp-IsAntisymmetric nat_cmp-IsAntisymmetric
 
 module _ (texts : List (List ℕ)) (text : List ℕ) where

@@ -2,6 +2,7 @@ pub mod Cuts
 pub mod Faults
 pub mod Identifier
 pub mod JsonFaults
+pub mod Laws
 pub mod Order
 pub mod OrderLaws
 pub mod Outer

@@ -5,6 +5,8 @@
 mod errors;
 /// The identifier.
 mod identifier;
+/// Laws of identifiers.
+pub mod laws;
 /// What reads identifiers, piece by piece.
 pub mod parser;
 /// The subtags.

@@ -56,7 +56,7 @@ impl LanguageIdentifier {
         let Some(text) = value.as_str() else {
             return Err(IdJsonError::NotText);
         };
-        from_text(alloc, text)
+        from_text(alloc, text.as_bytes())
     }
 
     /// The printed text as a JSON string.
@@ -68,9 +68,9 @@ impl LanguageIdentifier {
 }
 
 /// The identifier that the text of a JSON string is.
-fn from_text(alloc: Global, text: &str) -> Result<LanguageIdentifier, IdJsonError>
+fn from_text(alloc: Global, text: &[u8]) -> Result<LanguageIdentifier, IdJsonError>
     ensures ok { IfOk result (id_of text.now) }
     ensures err { IfErr result (IsJsonFault (Some text.now)) }
 {
-    parse_language_identifier(alloc, text.as_bytes()).map_err(IdJsonError::of_parser)
+    parse_language_identifier(alloc, text).map_err(IdJsonError::of_parser)
 }
