@@ -183,7 +183,7 @@ variant-lower text h =
 
 -- ---- the shapes of what is read
 
-language_shape : (text : List ℕ) → IsLanguage text → IsLanguageOrNone (language_of text)
+pub language_shape : (text : List ℕ) → IsLanguage text → IsLanguageOrNone (language_of text)
 language_shape text h = go (is_und text) refl
   where
     go : (b : Bool) → is_und text ≡ b → IsLanguageOrNone (cond b None (Some text))
@@ -219,6 +219,10 @@ module _ (P : List ℕ → Type 0) (nothing : P und) (language : (t : List ℕ) 
       (All-append P (part i.script) _ (for_part IsScript script i.script h.script)
       (All-append P (part i.region) i.variants (for_part IsRegion region i.region h.region)
       (All-weaker IsVariant P variant i.variants h.variants)))
+
+pub language_ascii : (o : Option (List ℕ)) → IsLanguageOrNone o → IsAscii (language_text o)
+language_ascii None h = tiny-IsAscii 8 und (language_fits und refl)
+language_ascii (Some t) h = tiny-IsAscii 8 t (language_fits t (first_so (is_language t) (not (is_und t)) h))
 
 join-ascii : (text : List ℕ) (texts : List (List ℕ)) → All IsAscii (text ∷ texts) → IsAscii (join_with_byte (byte "-") (text ∷ texts))
 join-ascii text [] h = All-head IsAscii text [] h
@@ -261,14 +265,14 @@ module _ (Shape : List ℕ → Type 0) (case : List ℕ → List ℕ) (is : (t :
   all-same [] h = refl
   all-same (t ∷ texts) h = λ k. is t (All-head Shape t texts h) k ∷ all-same texts (All-tail Shape t texts h) k
 
-language-same : (o : Option (List ℕ)) → IsLanguageOrNone o → o ≡ language_of (lowercase (language_text o))
+pub language-same : (o : Option (List ℕ)) → IsLanguageOrNone o → o ≡ language_of (lowercase (language_text o))
 language-same None h = refl
 language-same (Some t) h =
     let shape : IsLanguage t = grind (arith, nat_tests) in
     let other : is_und t ≡ false = grind (arith, nat_tests) in
     sym (ap language_of (language-lower t shape) ∙ ap (λ b. cond b None (Some t)) other)
 
-language-is : (o : Option (List ℕ)) → IsLanguageOrNone o → IsLanguage (lowercase (language_text o))
+pub language-is : (o : Option (List ℕ)) → IsLanguageOrNone o → IsLanguage (lowercase (language_text o))
 language-is None h = refl
 language-is (Some t) h =
     let shape : IsLanguage t = grind (arith, nat_tests) in rw (language-lower t shape) shape

@@ -2,7 +2,11 @@ pub mod Cuts
 pub mod Faults
 pub mod Identifier
 pub mod JsonFaults
+pub mod KeyLaws
 pub mod Laws
+pub mod Likely
+pub mod LikelyFaults
+pub mod LikelyRows
 pub mod Order
 pub mod OrderLaws
 pub mod Outer

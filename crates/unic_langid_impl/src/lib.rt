@@ -7,6 +7,8 @@ mod errors;
 mod identifier;
 /// Laws of identifiers.
 pub mod laws;
+/// Likely subtags.
+pub mod likelysubtags;
 /// What reads identifiers, piece by piece.
 pub mod parser;
 /// The subtags.
@@ -14,4 +16,5 @@ pub mod subtags;
 
 pub use errors::LanguageIdentifierError;
 pub use identifier::{IdJsonError, LanguageIdentifier, VariantsIter, canonicalize};
+pub use likelysubtags::{LikelyError, LikelyRows, LikelyTables};
 pub use parser::{ParserError, SubtagPieces};
