@@ -1,5 +1,7 @@
 pub mod CellLemmas
 pub mod Determined
+pub mod Least
+pub mod NumberLemmas
 pub mod PieceLemmas
 pub mod PrintLemmas
 pub mod ReadingLemmas

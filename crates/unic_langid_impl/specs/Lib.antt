@@ -1,4 +1,5 @@
 pub mod Cuts
+pub mod Direction
 pub mod Faults
 pub mod Identifier
 pub mod JsonFaults
@@ -7,6 +8,7 @@ pub mod Laws
 pub mod Likely
 pub mod LikelyFaults
 pub mod LikelyRows
+pub mod Numbers
 pub mod Order
 pub mod OrderLaws
 pub mod Outer

@@ -14,6 +14,7 @@ use std::cmp::Ordering;
 use std::marker::Model;
 
 mod json;
+mod likely;
 mod order;
 mod print;
 mod variants;

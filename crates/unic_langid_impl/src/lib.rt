@@ -1,6 +1,8 @@
 //! Unicode language identifiers (UTS 35, Part 1, section 3).
 #![tactic(auto)]
 
+/// The direction in which an identifier is written.
+mod direction;
 /// Why bytes are no identifier.
 mod errors;
 /// The identifier.
@@ -14,6 +16,7 @@ pub mod parser;
 /// The subtags.
 pub mod subtags;
 
+pub use direction::CharacterDirection;
 pub use errors::LanguageIdentifierError;
 pub use identifier::{IdJsonError, LanguageIdentifier, VariantsIter, canonicalize};
 pub use likelysubtags::{LikelyError, LikelyRows, LikelyTables};

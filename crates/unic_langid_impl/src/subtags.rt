@@ -3,6 +3,7 @@
 
 mod characters;
 mod language;
+mod raw;
 mod region;
 mod script;
 mod variant;

@@ -1,7 +1,7 @@
-ghost use Rattle.std.specs.Prelude.{◌≡◌, None, IfErr, IfOk, option_and_then};
+ghost use Rattle.std.specs.Prelude.{◌≡◌, None, IfErr, IfOk, OnOk, option_and_then};
 ghost use Rattle.unic_langid_impl.specs.Identifier.{text_cmp};
 ghost use Rattle.unic_langid_impl.specs.LikelyFaults.{AreLanguagesOf, AreScriptsOf, AreTablesOf, IsFirstFault, IsLanguagesFault, IsScriptsFault, IsTableFault};
-ghost use Rattle.unic_langid_impl.specs.LikelyRows.{IsTableOf};
+ghost use Rattle.unic_langid_impl.specs.LikelyRows.{AreSound, IsTableOf};
 
 use super::rows::{Key, LikelyError, LikelyRows, Subtags, value};
 use crate::subtags::{Language, Region, Script};
@@ -187,6 +187,7 @@ fn table<K: Key>(
     rows: &[TextRow],
 ) -> Result<BTreeMap<K, Subtags>, LikelyError>
     ensures ok { IfOk result (λ table. IsTableOf K.key_is K.Ord.cmp rows.now table.entries) }
+    ensures sound { OnOk result (AreSound K.key_is rows.now) }
     ensures err { IfErr result (IsTableFault K.key_is number rows.now) }
 {
     let mut table = BTreeMap::new(alloc);

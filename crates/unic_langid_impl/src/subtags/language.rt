@@ -1,10 +1,12 @@
-ghost use Rattle.std.specs.Prelude.{◌≡◌, ◌↔◌, ◌⊎◌, Some, None, IsTrue, IfErr, IfSome, option_and_then};
-ghost use Rattle.std.specs.Option.{option_copied};
+ghost use Rattle.std.specs.Prelude.{◌≡◌, ◌≢◌, ◌↔◌, ◌⊎◌, ℕ, List, Option, Some, None, IsTrue, IfOk, IfErr, OnErr, IfSome, option_and_then};
+ghost use Rattle.std.specs.Int.{w64};
+ghost use Rattle.std.specs.Option.{option_copied, option_map};
 ghost use Rattle.std.specs.Result.{OkIff};
 ghost use Rattle.std.specs.Str.{chars};
-ghost use Rattle.unic_langid_impl.specs.Subtags.{Fits, IsLanguage, IsLanguageOrNone, is_language, language_of, language_text, lowercase};
+ghost use Rattle.unic_langid_impl.specs.Subtags.{Fits, IsLanguage, IsLanguageOrNone, is_language, language_of, language_text, lowercase, raw};
 
 use super::characters::are_lowercase;
+use super::raw::{number_u64, without_zeros};
 use crate::ParserError;
 use std::fmt;
 use std::marker::Model;
@@ -71,6 +73,30 @@ impl Language {
             Some(text) => text.as_str(),
             None => "und",
         }
+    }
+
+    /// The little-endian number of its bytes, with zeros behind them; none for no language.
+    pub fn to_raw(&self) -> Option<u64>
+        ensures { result ≡ option_map (raw w64) self.now }
+    {
+        match &self.text {
+            Some(text) => Some(number_u64(text.as_str().as_bytes())),
+            None => None,
+        }
+    }
+
+    /// The language of this number.
+    pub fn from_raw(v: u64) -> Result<Self, ParserError>
+        ensures ok { IfOk result (λ language. option_map (raw w64) language ≡ Some v) }
+        ensures err { OnErr result ((language : Option (List ℕ)) → IsLanguageOrNone language
+            → option_map (raw w64) language ≢ Some v) }
+        ensures cause { IfErr result (λ error. error ≡ ParserError.InvalidLanguage) }
+    {
+        let language = Language::from_bytes(without_zeros(&v.to_le_bytes()))?;
+        if language.to_raw() != Some(v) {
+            return Err(ParserError::InvalidLanguage);
+        }
+        Ok(language)
     }
 
     /// Whether this is the text.

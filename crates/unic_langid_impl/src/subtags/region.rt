@@ -1,10 +1,12 @@
-ghost use Rattle.std.specs.Prelude.{◌≡◌, ◌↔◌, Some, IsTrue, IfErr};
+ghost use Rattle.std.specs.Prelude.{◌≡◌, ◌≢◌, ◌↔◌, ℕ, List, Some, IsTrue, IfOk, IfErr, OnErr};
+ghost use Rattle.std.specs.Int.{w32};
 ghost use Rattle.std.specs.Result.{OkIff};
 ghost use Rattle.std.specs.Str.{chars};
 ghost use Rattle.tinystr.specs.Shapes.{IsRegion, is_region};
-ghost use Rattle.unic_langid_impl.specs.Subtags.{uppercase};
+ghost use Rattle.unic_langid_impl.specs.Subtags.{raw, uppercase};
 
 use super::characters::{are_digits, are_uppercase};
+use super::raw::{number_u32, without_zeros};
 use crate::ParserError;
 use std::fmt;
 use std::marker::Model;
@@ -53,6 +55,26 @@ impl Region {
         ensures shape { IsRegion result.now }
     {
         self.text.as_str()
+    }
+
+    /// The little-endian number of its bytes, with zeros behind them.
+    pub fn to_raw(&self) -> u32
+        ensures { result ≡ raw w32 self.now }
+    {
+        number_u32(self.as_str().as_bytes())
+    }
+
+    /// The region of this number.
+    pub fn from_raw(v: u32) -> Result<Self, ParserError>
+        ensures ok { IfOk result (λ region. raw w32 region ≡ v) }
+        ensures err { OnErr result ((region : List ℕ) → IsRegion region → raw w32 region ≢ v) }
+        ensures cause { IfErr result (λ error. error ≡ ParserError.InvalidSubtag) }
+    {
+        let region = Region::from_bytes(without_zeros(&v.to_le_bytes()))?;
+        if region.to_raw() != v {
+            return Err(ParserError::InvalidSubtag);
+        }
+        Ok(region)
     }
 
     /// Whether this is the text.

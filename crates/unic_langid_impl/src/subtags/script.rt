@@ -1,10 +1,13 @@
-ghost use Rattle.std.specs.Prelude.{◌≡◌, ◌↔◌, Some, IsTrue, IfErr};
+ghost use Rattle.std.specs.Prelude.{◌≡◌, ◌≢◌, ◌↔◌, ℕ, List, Some, IsTrue, IfOk, IfErr, OnErr};
+ghost use Rattle.std.specs.Int.{w32};
 ghost use Rattle.std.specs.Result.{OkIff};
 ghost use Rattle.std.specs.Str.{chars};
 ghost use Rattle.tinystr.specs.Shapes.{IsScript, is_script};
 ghost use Rattle.tinystr.specs.Text.{titlecase};
+ghost use Rattle.unic_langid_impl.specs.Subtags.{raw};
 
 use super::characters::are_lowercase;
+use super::raw::{number_u32, without_zeros};
 use crate::ParserError;
 use std::fmt;
 use std::marker::Model;
@@ -53,6 +56,26 @@ impl Script {
         ensures shape { IsScript result.now }
     {
         self.text.as_str()
+    }
+
+    /// The little-endian number of its bytes, with zeros behind them.
+    pub fn to_raw(&self) -> u32
+        ensures { result ≡ raw w32 self.now }
+    {
+        number_u32(self.as_str().as_bytes())
+    }
+
+    /// The script of this number.
+    pub fn from_raw(v: u32) -> Result<Self, ParserError>
+        ensures ok { IfOk result (λ script. raw w32 script ≡ v) }
+        ensures err { OnErr result ((script : List ℕ) → IsScript script → raw w32 script ≢ v) }
+        ensures cause { IfErr result (λ error. error ≡ ParserError.InvalidSubtag) }
+    {
+        let script = Script::from_bytes(without_zeros(&v.to_le_bytes()))?;
+        if script.to_raw() != v {
+            return Err(ParserError::InvalidSubtag);
+        }
+        Ok(script)
     }
 
     /// Whether this is the text.

@@ -1,10 +1,12 @@
-ghost use Rattle.std.specs.Prelude.{◌≡◌, ◌↔◌, Some, IsTrue, IfErr};
+ghost use Rattle.std.specs.Prelude.{◌≡◌, ◌≢◌, ◌↔◌, ℕ, List, Some, IsTrue, IfOk, IfErr, OnErr};
+ghost use Rattle.std.specs.Int.{w64};
 ghost use Rattle.std.specs.Result.{OkIff};
 ghost use Rattle.std.specs.Str.{chars};
 ghost use Rattle.tinystr.specs.Shapes.{IsVariant, is_variant};
-ghost use Rattle.unic_langid_impl.specs.Subtags.{lowercase};
+ghost use Rattle.unic_langid_impl.specs.Subtags.{raw, lowercase};
 
 use super::characters::are_small;
+use super::raw::{number_u64, without_zeros};
 use crate::ParserError;
 use std::fmt;
 use std::marker::Model;
@@ -53,6 +55,26 @@ impl Variant {
         ensures shape { IsVariant result.now }
     {
         self.text.as_str()
+    }
+
+    /// The little-endian number of its bytes, with zeros behind them.
+    pub fn to_raw(&self) -> u64
+        ensures { result ≡ raw w64 self.now }
+    {
+        number_u64(self.as_str().as_bytes())
+    }
+
+    /// The variant of this number.
+    pub fn from_raw(v: u64) -> Result<Self, ParserError>
+        ensures ok { IfOk result (λ variant. raw w64 variant ≡ v) }
+        ensures err { OnErr result ((variant : List ℕ) → IsVariant variant → raw w64 variant ≢ v) }
+        ensures cause { IfErr result (λ error. error ≡ ParserError.InvalidSubtag) }
+    {
+        let variant = Variant::from_bytes(without_zeros(&v.to_le_bytes()))?;
+        if variant.to_raw() != v {
+            return Err(ParserError::InvalidSubtag);
+        }
+        Ok(variant)
     }
 
     /// Whether this is the text.
