@@ -4,6 +4,7 @@ pub mod Least
 pub mod NumberLemmas
 pub mod PieceLemmas
 pub mod PrintLemmas
+pub mod RawLemmas
 pub mod ReadingLemmas
 pub mod SubtagLemmas
 pub mod TableLemmas

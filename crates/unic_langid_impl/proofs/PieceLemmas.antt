@@ -8,11 +8,11 @@ use Rattle.std.proofs.lemmas.List.Sums.{fails_before_first, prefix_len-le-length
 use Rattle.unic_langid_impl.specs.Pieces.{is_separator, pieces_of}
 
 -- what a search found, and that it found nothing
-found_at : (b : Bool) (k n : ℕ) → Some n ≡ cond b (Some k) None → (b ≡ true) × (n ≡ k)
+pub found_at : (b : Bool) (k n : ℕ) → Some n ≡ cond b (Some k) None → (b ≡ true) × (n ≡ k)
 found_at true k n e = (refl, cc)
 found_at false k n e = cc
 
-found_none : (b : Bool) (k : ℕ) → None ≡ cond b (Some k) None → b ≡ false
+pub found_none : (b : Bool) (k : ℕ) → None ≡ cond b (Some k) None → b ≡ false
 found_none true k e = cc
 found_none false k e = refl
 

@@ -93,7 +93,10 @@ impl Language {
         ensures cause { IfErr result (λ error. error ≡ ParserError.InvalidLanguage) }
     {
         let language = Language::from_bytes(without_zeros(&v.to_le_bytes()))?;
-        if language.to_raw() != Some(v) {
+        let Some(number) = language.to_raw() else {
+            return Err(ParserError::InvalidLanguage);
+        };
+        if number != v {
             return Err(ParserError::InvalidLanguage);
         }
         Ok(language)

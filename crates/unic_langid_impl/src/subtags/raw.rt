@@ -1,5 +1,5 @@
 //! The number of a subtag: the little-endian reading of its bytes, with zeros behind them.
-ghost use Rattle.std.specs.Prelude.{◌≡◌, ◌≤◌, length};
+ghost use Rattle.std.specs.Prelude.{◌≡◌, ◌≤◌, ◌==◌, length, position};
 ghost use Rattle.std.specs.Int.{w32, w64};
 ghost use Rattle.tinystr.specs.Text.{unpadded};
 ghost use Rattle.unic_langid_impl.specs.Subtags.{raw};
@@ -28,8 +28,15 @@ pub(super) fn number_u64(text: &[u8]) -> u64
 pub(super) fn without_zeros(bytes: &[u8]) -> &[u8]
     ensures { result.now ≡ unpadded bytes.now }
 {
-    match bytes.iter().position(|byte| *byte == 0) {
+    match first_zero(bytes) {
         Some(end) => &bytes[..end],
         None => bytes,
     }
+}
+
+/// Where the first NUL stands.
+fn first_zero(bytes: &[u8]) -> Option<usize>
+    ensures { result ≡ position (λ byte. byte == 0) bytes.now }
+{
+    bytes.iter().position(|byte| *byte == 0)
 }
