@@ -5,7 +5,6 @@ use Rattle.std.specs.Str.{chars, IsAscii}
 use Rattle.std.proofs.lemmas.Str.{chars-IsAscii, encodes-chars}
 use Rattle.std.proofs.lemmas.Str.Ascii.{encodes-IsAscii}
 use lib.Utf8.{encodes}
-use Rattle.tinystr.specs.ShapesLaws.{tiny-IsAscii}
 use Rattle.unic_langid_impl.specs.Identifier.{Identifier, IsIdentifier, part, print}
 use Rattle.unic_langid_impl.specs.Likely.{Triple, identifier_of}
 use Rattle.unic_langid_impl.specs.LikelyRows.{LanguageCell, PrintsTriple}

@@ -1,10 +1,9 @@
 -- Pieces are at most one identifier.
-use Rattle.std.proofs.Common.{◌≡◌, ◌≢◌, ℕ, suc, ◌+◌, ◌<◌, Bool, true, false, cond, ◌⊎◌, ⊎_elim, inl, inr, List, [], ◌∷◌, ◌++◌, Option, Some, None, Ordering, map, length, get_or, drop, refl, sym, ap, subst, ◌∙◌, arith}
+use Rattle.std.proofs.Common.{◌≡◌, ℕ, suc, Bool, true, false, ◌⊎◌, ⊎_elim, inl, inr, List, [], ◌∷◌, ◌++◌, Option, Some, None, map, drop, refl, sym, ap, subst, ◌∙◌, arith}
 use Rattle.std.specs.Prelude.{◌↔◌, IfSome, zero}
 use Rattle.std.specs.Cmp.{tied_itself}
 use Rattle.std.specs.Cmp.Lexicographic.{nat_list_cmp_total}
-use Rattle.std.specs.List.{All, AllByRecursion, Contains}
-use Rattle.std.specs.List.Sorted.{IsStrictlySortedBy}
+use Rattle.std.specs.List.{All, Contains}
 use Rattle.std.specs.Option.{option_map}
 use Rattle.std.specs.Ordering.{ordering_reverse}
 use Rattle.std.specs.declared.cmp.Ordering.TheVariants.{Less, Equal, Greater}
@@ -19,7 +18,6 @@ use Rattle.unic_langid_impl.specs.Reading.{AreIdentifier, IsAscendingOf}
 use Rattle.unic_langid_impl.specs.Subtags.{language_of, lowercase, uppercase}
 use Rattle.unic_langid_impl.specs.Taking.{left_behind, taken}
 use Rattle.unic_langid_impl.proofs.ReadingLemmas.{region-variant, script-region, script-variant, shaped-from}
-use Rattle.unic_langid_impl.proofs.VariantLemmas.{texts_tie}
 
 -- ---- ascending lists of the same texts are the same
 

@@ -1,12 +1,11 @@
 -- A search in numbers that ascend, and the number of a text's bytes.
-use Rattle.std.proofs.Common.{◌≡◌, ℕ, zero, suc, ◌+◌, ◌-◌, ◌<◌, ◌≤◌, Bool, true, false, nat_eq, nat_lt, List, [], ◌∷◌, ◌++◌, length, get_or, drop, replicate, length-append, Result, Ok, Err, is_ok, refl, sym, ap, ◌∙◌, subst, arith}
-use Rattle.std.specs.Prelude.{◌&&◌, IsTrue}
+use Rattle.std.proofs.Common.{◌≡◌, ℕ, zero, suc, ◌+◌, ◌-◌, ◌<◌, ◌≤◌, Bool, true, false, nat_lt, List, [], ◌∷◌, ◌++◌, length, get_or, drop, replicate, length-append, Result, Ok, Err, is_ok, refl, sym, ap, ◌∙◌, arith}
+use Rattle.std.specs.Prelude.{IsTrue}
 use Rattle.std.specs.Cmp.{first_so, nat_eq_equiv, second_so}
 use Rattle.std.specs.Int.{byte_worth, from_le_bytes, sum_through, to_le_bytes, w32, w64}
-use Rattle.std.specs.List.{All, list_any}
+use Rattle.std.specs.List.{All}
 use Rattle.std.specs.List.Sorted.{IsBinarySearchResult}
 use Rattle.std.specs.Ordering.{nat_cmp}
-use Rattle.std.proofs.lemmas.Bool.{false≢true}
 use Rattle.std.proofs.lemmas.Bool.Decides.{nat_tests}
 use Rattle.std.proofs.lemmas.List.{drop-replicate, get_or_default, length-replicate}
 use Rattle.std.proofs.lemmas.List.Elements.{All-head, All-tail}
@@ -46,9 +45,9 @@ searched-is_in xs x (Ok i) b is h found =
 searched-is_in xs x (Err i) b is h missing =
     let (within, below, above) = searched xs x (Err i) missing (ascends-far xs h) in
     is ∙ sym (by_answer (is_in xs x) (λ one.
-        let (k, lt, at) = Contains-from_any (λ p q e. eqb-true p q e) x xs one in
-        let at_zero : get_or xs k 0 ≡ x = get_or_default xs k 0 x lt ∙ at in
-        by_place (nat_lt k i) k refl lt at_zero below above))
+    let (k, lt, at) = Contains-from_any (λ p q e. eqb-true p q e) x xs one in
+    let at_zero : get_or xs k 0 ≡ x = get_or_default xs k 0 x lt ∙ at in
+    by_place (nat_lt k i) k refl lt at_zero below above))
   where
     by_place : (before : Bool) (k : ℕ) → nat_lt k i ≡ before → k < length xs → get_or xs k 0 ≡ x
         → ((k : ℕ) → k < i → get_or xs k 0 < x) → ((k : ℕ) → i ≤ k → k < length xs → x < get_or xs k 0) → ⊥

@@ -1,9 +1,9 @@
 -- The printed text of an identifier: how it is written subtag by subtag, that it is ASCII, and that it is read as the same one.
-use Rattle.std.proofs.Common.{◌≡◌, ◌≢◌, ℕ, ◌<◌, Bool, true, false, cond, not, ⊎_elim, List, [], ◌∷◌, ◌++◌, Option, Some, None, map, length, drop, refl, sym, ap, subst, ◌∙◌, append_assoc, arith, lit<}
-use Rattle.std.specs.Prelude.{◌↔◌, ◌==◌, ◌&&◌, IfSome, IsSomeAnd, IsTrue}
+use Rattle.std.proofs.Common.{◌≡◌, ◌≢◌, ℕ, Bool, true, false, cond, not, ⊎_elim, List, [], ◌∷◌, ◌++◌, Option, Some, None, map, length, drop, refl, sym, ap, subst, ◌∙◌, append_assoc, arith, lit<}
+use Rattle.std.specs.Prelude.{◌↔◌, ◌==◌, ◌&&◌, IfSome, IsTrue}
 use Rattle.std.specs.Char.{is_ascii_digit, is_ascii_lowercase, is_ascii_uppercase, to_ascii_lowercase, to_ascii_uppercase}
 use Rattle.std.specs.Cmp.{first_so}
-use Rattle.std.specs.List.{All, Contains, join_with_byte, list_all}
+use Rattle.std.specs.List.{All, join_with_byte, list_all}
 use Rattle.std.specs.Option.{option_map}
 use Rattle.std.specs.Str.{IsAscii, byte, chars}
 use Rattle.std.proofs.lemmas.Bool.{false≢true, or_cases}
@@ -12,14 +12,14 @@ use Rattle.std.proofs.lemmas.List.{append-nil, append_cancel_left}
 use Rattle.std.proofs.lemmas.List.Elements.{All-append, All-cons, All-contains, All-head, All-nil, All-tail, All-weaker, Contains-get_or}
 use Rattle.std.proofs.lemmas.List.Splits.{slice_split_at, slice_split_none}
 use Rattle.std.proofs.lemmas.Str.{IsAscii-append, chars-IsAscii}
-use Rattle.std.proofs.lemmas.Str.Ascii.{IsAscii-cons, IsAscii-nil}
-use Rattle.tinystr.specs.Shapes.{IsRegion, IsScript, IsVariant, is_region, is_script, is_small}
+use Rattle.std.proofs.lemmas.Str.Ascii.{IsAscii-cons}
+use Rattle.tinystr.specs.Shapes.{IsRegion, IsScript, IsVariant, is_small}
 use Rattle.tinystr.specs.ShapesLaws.{tiny-IsAscii, tiny_region, tiny_script, tiny_variant}
 use Rattle.tinystr.specs.Text.{titlecase}
 use Rattle.unic_langid_impl.specs.Identifier.{Identifier, IsIdentifier, part, print, subtags}
 use Rattle.unic_langid_impl.specs.Pieces.{first_piece, is_separator, pieces_of}
 use Rattle.unic_langid_impl.specs.Printing.{behind_language, dashed}
-use Rattle.unic_langid_impl.specs.Reading.{AreIdentifier, IsAscendingOf, id_of}
+use Rattle.unic_langid_impl.specs.Reading.{AreIdentifier, id_of}
 use Rattle.unic_langid_impl.specs.Subtags.{IsLanguage, IsLanguageOrNone, is_language, is_und, language_of, language_text, lowercase, und, uppercase}
 use Rattle.unic_langid_impl.proofs.SubtagLemmas.{language_fits}
 

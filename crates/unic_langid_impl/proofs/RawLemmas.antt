@@ -1,13 +1,13 @@
 -- The subtag of a number: the text that the number's bytes are, without the zeros behind it.
-use Rattle.std.proofs.Common.{◌≡◌, ◌≢◌, ℕ, ◌<◌, ◌≤◌, nat_lt, List, Option, Some, None, length, take, sym, ap, subst, ◌∙◌, arith}
-use Rattle.std.specs.Prelude.{◌==◌, IfSome}
+use Rattle.std.proofs.Common.{◌≡◌, ◌≢◌, ℕ, ◌≤◌, nat_lt, List, Option, Some, None, length, take, sym, ap, subst, ◌∙◌, arith}
+use Rattle.std.specs.Prelude.{◌==◌}
 use Rattle.std.specs.Int.{Width, from_le_bytes, to_le_bytes, w64}
 use Rattle.std.specs.List.{position, position_or_len}
 use Rattle.std.specs.Option.{option_map}
 use Rattle.std.proofs.lemmas.Bool.Decides.{nat_tests}
 use Rattle.std.proofs.lemmas.List.{take_all}
 use Rattle.tinystr.specs.Text.{unpadded}
-use Rattle.unic_langid_impl.specs.Subtags.{IsLanguage, IsLanguageOrNone, is_language, is_und, language_of, language_text, lowercase, raw}
+use Rattle.unic_langid_impl.specs.Subtags.{IsLanguage, IsLanguageOrNone, is_language, is_und, language_of, language_text, lowercase}
 use Rattle.unic_langid_impl.proofs.NumberLemmas.{bytes-text_64}
 use Rattle.unic_langid_impl.proofs.PieceLemmas.{found_at, found_none}
 use Rattle.unic_langid_impl.proofs.PrintLemmas.{language-is, language-same}

@@ -1,15 +1,15 @@
 -- A reader that takes what it can takes the identifier.
-use Rattle.std.proofs.Common.{◌≡◌, ◌≢◌, ℕ, suc, ◌<◌, Bool, true, false, cond, List, [], ◌∷◌, ◌++◌, Option, Some, None, map, length, drop, refl, sym, ap, subst, ◌∙◌, append_assoc, arith, is_some, Bor, Result, Ok, Err}
-use Rattle.std.specs.Prelude.{◌&&◌, ◌||◌, IfSome, IsSomeAnd, IsTrue, MatchOption, option_and_then, IfOk, IfErr, OnOk}
+use Rattle.std.proofs.Common.{◌≡◌, ◌≢◌, ℕ, suc, Bool, true, false, cond, List, [], ◌∷◌, ◌++◌, Option, Some, None, map, length, drop, refl, sym, ap, subst, ◌∙◌, append_assoc, arith, is_some, Bor, Result, Ok, Err}
+use Rattle.std.specs.Prelude.{◌&&◌, ◌||◌, IfSome, MatchOption, option_and_then, IfOk, IfErr, OnOk}
 use Rattle.std.specs.List.{All, list_all}
 use Rattle.std.specs.Option.{option_copied, option_map}
-use Rattle.std.specs.Char.{is_ascii_digit, is_ascii_lowercase, is_ascii_uppercase, to_ascii_lowercase, to_ascii_uppercase}
+use Rattle.std.specs.Char.{is_ascii_digit, is_ascii_uppercase, to_ascii_lowercase, to_ascii_uppercase}
 use Rattle.std.proofs.lemmas.Bool.{false≢true}
 use Rattle.std.proofs.lemmas.Bool.Decides.{nat_tests}
 use Rattle.std.proofs.lemmas.List.{append-nil, length-map, map-append}
 use Rattle.std.proofs.lemmas.List.Elements.{All-nil, All-push, All-head, All-tail}
 use Rattle.std.proofs.lemmas.List.Splits.{length-slice_split}
-use Rattle.tinystr.specs.Shapes.{IsScript, IsRegion, IsVariant, is_region, is_script, is_variant}
+use Rattle.tinystr.specs.Shapes.{IsVariant, is_region, is_script, is_variant}
 use Rattle.tinystr.specs.Text.{titlecase}
 use Rattle.unic_langid_impl.specs.Identifier.{Identifier, nothing, part}
 use Rattle.unic_langid_impl.specs.Pieces.{first_piece, is_separator, pieces_of}
@@ -251,9 +251,11 @@ module _ (left : List (List ℕ)) (i : Identifier) where
   steps-nothing : Steps [] left i → Reads [] left i
   steps-nothing h =
       let (none, rest) = none_before h.variants_are.front left h.variants_are.parts in
-      let variants : h.variants ≡ [] = h.variants_are.are ∙ ap (map lowercase) none in
-      (rest, nothing_of i h.language_is h.script_is h.region_is
-      (no_texts i.variants (subst (λ l. IsAscendingOf l i.variants) variants h.ascending)))
+      let variants : h.variants ≡ [] = h.variants_are.are ∙ ap (map lowercase) none in (
+        rest,
+        nothing_of i h.language_is h.script_is h.region_is
+            (no_texts i.variants (subst (λ l. IsAscendingOf l i.variants) variants h.ascending)),
+      )
 
   module _ (first : List ℕ) (pieces : List (List ℕ)) (h : Steps (first ∷ pieces) left i) where
     abbrev script : Option (List ℕ)
@@ -395,8 +397,8 @@ steps-suffix (first ∷ pieces) front left e =
     let region = part (taken is_region uppercase past) in (
       first ∷ (script ++ (region ++ front)),
       ap (λ k. first ∷ k) (append_assoc script (region ++ front) left ∙ ap (λ k. script ++ k) (append_assoc region front left)
-      ∙ ap (λ l. script ++ (region ++ l)) e ∙ ap (λ l. script ++ l) (taken-left is_region uppercase past)
-      ∙ taken-left is_script titlecase pieces),
+          ∙ ap (λ l. script ++ (region ++ l)) e ∙ ap (λ l. script ++ l) (taken-left is_region uppercase past)
+          ∙ taken-left is_script titlecase pieces),
     )
 
 -- a piece is left where a look found one

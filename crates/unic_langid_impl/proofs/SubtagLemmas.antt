@@ -1,5 +1,5 @@
 -- A text that names a subtag in any case fits the type that holds it.
-use Rattle.std.proofs.Common.{◌≡◌, true, ℕ, List, length, arith, refl}
+use Rattle.std.proofs.Common.{◌≡◌, true, ℕ, List, arith, refl}
 use Rattle.std.specs.Char.{is_ascii_lowercase}
 use Rattle.std.specs.List.{list_all}
 use Rattle.std.specs.Str.{chars}

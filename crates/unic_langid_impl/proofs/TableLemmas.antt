@@ -1,5 +1,5 @@
 -- A table that is filled row by row.
-use Rattle.std.proofs.Common.{◌≡◌, ◌≢◌, zero, suc, ◌+◌, Bool, true, false, cond, List, [], ◌∷◌, ◌++◌, map, Option, Some, None, is_some, Ordering, refl, sym, ap, ◌∙◌, subst, arith}
+use Rattle.std.proofs.Common.{◌≡◌, ◌≢◌, zero, suc, Bool, true, false, cond, List, [], ◌∷◌, ◌++◌, map, Option, Some, None, is_some, Ordering, refl, sym, ap, ◌∙◌, subst, arith}
 use Rattle.std.specs.BTreeMap.{is_at}
 use Rattle.std.specs.Cmp.{IsTotalOrder, eq_by_cmp_equiv, Equal-is, tied_itself}
 use Rattle.std.specs.List.{AllZip, Any}
@@ -9,7 +9,7 @@ use Rattle.std.proofs.lemmas.Bool.{false≢true}
 use Rattle.std.proofs.lemmas.Slice.Zip.{all_zipped_more}
 use Rattle.writeable_core.specs.declared.text.TextRow.{TextRow}
 use Rattle.unic_langid_impl.specs.Likely.{Triple, row}
-use Rattle.unic_langid_impl.specs.LikelyRows.{AreDistinct, IsTableOf, Misses, PrintsTriple, Say}
+use Rattle.unic_langid_impl.specs.LikelyRows.{AreDistinct, IsTableOf, Misses, PrintsTriple}
 
 module _ {K : Type 0} (R : K → K → Ordering) (o : IsTotalOrder R) (ties : (a b : K) → R a b ≡ Equal → a ≡ b) where
   abbrev keys_of : List (K × Triple) → List K

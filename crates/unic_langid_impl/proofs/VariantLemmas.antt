@@ -86,6 +86,6 @@ pub ascend-not : (texts : List (List ℕ)) (next : ℕ) (one other : List ℕ) (
 ascend-not texts next one other r positive within is_one is_other is not_less = (
   λ e. absurd (false≢true e),
   λ h. absurd (not_less (is ∙ (λ k. text_cmp ((is_one ∙ get_or_default texts (next - 1) one [] (omega arith)) k)
-          ((is_other ∙ get_or_default texts next other [] within) k))
-          ∙ Less-from_sorted text_cmp texts (next - 1) next [] h (omega arith) within)),
+      ((is_other ∙ get_or_default texts next other [] within) k))
+      ∙ Less-from_sorted text_cmp texts (next - 1) next [] h (omega arith) within)),
 )

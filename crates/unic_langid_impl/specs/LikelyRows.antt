@@ -5,8 +5,7 @@ use Rattle.std.specs.declared.cmp.Ordering.{Ordering}
 use Rattle.tinystr.specs.Shapes.{IsRegion, IsScript}
 use Rattle.writeable_core.specs.declared.text.TextRow.{TextRow}
 use Rattle.unic_langid_impl.specs.Identifier.{IsIdentifier, print}
-use Rattle.unic_langid_impl.specs.Likely.{Table, Tables, Triple, identifier_of, language_cmp, language_pair_cmp, pair_cmp, row}
-use Rattle.unic_langid_impl.specs.Identifier.{text_cmp}
+use Rattle.unic_langid_impl.specs.Likely.{Table, Triple, identifier_of, row}
 use Rattle.unic_langid_impl.specs.Subtags.{IsLanguageOrNone, language_text}
 
 -- A cell is the text of a language, `und` for none; of a language that is there; the printed text of a language that is there,

@@ -1,7 +1,6 @@
 -- The laws of how identifiers compare: an equivalence, a total order that agrees with it, and equal ones are hashed alike.
-use Rattle.std.proofs.Common.{◌≡◌, ℕ, Bool, true, false, List, Option, Some, None, refl, sym, ap, nat_eq}
-use Rattle.std.specs.Prelude.{◌&&◌, IsTrue}
-use Rattle.std.specs.Bool.{Decides}
+use Rattle.std.proofs.Common.{◌≡◌, ℕ, true, List, Option, Some, None, refl, ap}
+use Rattle.std.specs.Prelude.{IsTrue}
 use Rattle.std.specs.Cmp.{IsEquivalence, IsPartialOrder, IsTotalOrder, and_equiv, both_tied, first_so, on_equiv, on_total, po, second_so, then_total}
 use Rattle.std.specs.Cmp.Lexicographic.{bytes_decides, lists_equiv, lists_ties, lists_total, nat_list_cmp_total, nat_list_eq_equiv, options_equiv, options_total, pointwise, pointwise_decides, slice_cmp, texts_ties}
 use Rattle.std.specs.Option.{option_cmp, option_eq}

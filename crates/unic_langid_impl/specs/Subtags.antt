@@ -5,7 +5,6 @@ use Rattle.std.specs.Char.{is_ascii_lowercase, to_ascii_lowercase, to_ascii_uppe
 use Rattle.std.specs.Int.{Width, from_le_bytes, is_in_range}
 use Rattle.std.specs.List.{list_all}
 use Rattle.std.specs.Str.{bytes_eq}
-use Rattle.tinystr.specs.Text.{titlecase}
 
 abbrev pub lowercase : List ℕ → List ℕ
 lowercase text = map to_ascii_lowercase text

@@ -6,9 +6,9 @@ ghost use Rattle.unic_langid_impl.specs.Identifier.{Ascend};
 ghost use Rattle.unic_langid_impl.specs.Parts.{FitVariants};
 ghost use Rattle.unic_langid_impl.specs.Subtags.{Fits};
 
-use crate::{LanguageIdentifierError, ParserError};
 use crate::parser::{self, SubtagPieces};
 use crate::subtags::{Language, Region, Script, Variant};
+use crate::{LanguageIdentifierError, ParserError};
 use std::alloc::{AllocError, Global};
 use std::cmp::Ordering;
 use std::marker::Model;
@@ -77,8 +77,9 @@ impl LanguageIdentifier {
         ensures whole { OnOk result (allow_extension ≡ false → iter.new ≡ []) }
         ensures err { IfErr result (RefusesPieces allow_extension iter.old iter.new) }
     {
-        parser::parse_language_identifier_from_iter(alloc, iter, allow_extension)
-            .map_err(LanguageIdentifierError::of_parser)
+        parser::parse_language_identifier_from_iter(alloc, iter, allow_extension).map_err(
+            LanguageIdentifierError::of_parser,
+        )
     }
 
     /// The identifier of these subtags, each variant once.

@@ -148,11 +148,7 @@ impl ScriptTables {
     }
 
     /// The likely subtags.
-    pub(super) fn likely(
-        &self,
-        script: Option<Script>,
-        region: Option<Region>,
-    ) -> Option<Subtags>
+    pub(super) fn likely(&self, script: Option<Script>, region: Option<Region>) -> Option<Subtags>
         ensures { result ≡ without_language self.now (None, script, region) }
     {
         let Some(script) = script else {

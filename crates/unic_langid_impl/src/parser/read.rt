@@ -13,10 +13,7 @@ use crate::{LanguageIdentifier, ParserError};
 use std::alloc::{AllocError, Global};
 
 /// The identifier that these bytes are.
-pub fn parse_language_identifier(
-    alloc: Global,
-    t: &[u8],
-) -> Result<LanguageIdentifier, ParserError>
+pub fn parse_language_identifier(alloc: Global, t: &[u8]) -> Result<LanguageIdentifier, ParserError>
     ensures ok { IfOk result (id_of t.now) }
     ensures err { IfErr result (IsParserFault t.now) }
 {

@@ -1,4 +1,3 @@
-use Rattle.std.proofs.Common.{arith}
 use Rattle.unic_langid_impl.proofs.VariantLemmas.{ascend-adjacent, ascend-not}
 use Rattle.unic_langid_impl.proofs.identifier.ascend.Goals as goal
 

@@ -1,5 +1,4 @@
-use Rattle.std.proofs.Common.{◌≡◌, ◌++◌, ap, ◌∙◌}
-use Rattle.unic_langid_impl.specs.Printing.{behind_language}
+use Rattle.std.proofs.Common.{ap, ◌∙◌}
 use Rattle.unic_langid_impl.specs.Subtags.{language_text}
 use Rattle.unic_langid_impl.proofs.PrintLemmas.{begins, begins-not, goes_on}
 use Rattle.unic_langid_impl.proofs.identifier.LanguageIdentifier.eq_str.Goals as goal

@@ -51,8 +51,8 @@ returns-in-Ok-Some-insert-clause-err g c =
           c.in-Some.ensures,
           (c.in-Ok-Some.value, rw c.in-Ok-Some.field-0-is at c.in-Ok-Some.ensures),
           earlier_key g.K.Ord.cmp g.met.K.Ord.total g.met.K.Key.ties_same g.K.Key.key_is (take c.loop-index.index rows)
-          c.loop-index.table.entries c.in-Some.key _ c.loop-index.invariant
-          (sym c.in-Ok-Some-insert.field-0-is ∙ c.in-Ok-Some-insert.ensures.old),
+              c.loop-index.table.entries c.in-Some.key _ c.loop-index.invariant
+              (sym c.in-Ok-Some-insert.field-0-is ∙ c.in-Ok-Some-insert.ensures.old),
         );
       },
     )

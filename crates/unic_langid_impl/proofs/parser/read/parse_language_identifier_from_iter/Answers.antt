@@ -1,6 +1,6 @@
-use Rattle.std.proofs.Common.{◌≡◌, ◌≢◌, ℕ, List, [], drop, sym, ap, subst, ◌∙◌, refl, rules}
+use Rattle.std.proofs.Common.{◌≢◌, [], ap, subst, ◌∙◌, rules}
 use Rattle.std.specs.Prelude.{IfSome, option_and_then}
-use Rattle.std.specs.Option.{option_copied, option_map}
+use Rattle.std.specs.Option.{option_map}
 use Rattle.tinystr.specs.Shapes.{is_region, is_script}
 use Rattle.tinystr.specs.Text.{titlecase}
 use Rattle.unic_langid_impl.specs.Subtags.{IsLanguage, language_of, lowercase, uppercase}

@@ -1,4 +1,3 @@
-use Rattle.std.proofs.Common.{rules}
 use Rattle.unic_langid_impl.proofs.ReadingLemmas.{takes_more}
 use Rattle.unic_langid_impl.proofs.parser.read.read_variants.Goals as goal
 

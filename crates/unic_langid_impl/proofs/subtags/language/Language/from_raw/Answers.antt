@@ -1,4 +1,4 @@
-use Rattle.std.proofs.Common.{◌≡◌, ap, ◌∙◌, sym}
+use Rattle.std.proofs.Common.{ap, ◌∙◌}
 use Rattle.tinystr.specs.Text.{unpadded}
 use Rattle.writeable_core.specs.SinkLaws.{on_err}
 use Rattle.unic_langid_impl.proofs.RawLemmas.{none-language, other-language}

@@ -1,4 +1,4 @@
-use Rattle.std.proofs.Common.{ap, ◌∙◌, arith}
+use Rattle.std.proofs.Common.{ap, ◌∙◌}
 use Rattle.std.specs.Int.{w32}
 use Rattle.tinystr.specs.Shapes.{IsScript}
 use Rattle.tinystr.specs.ShapesLaws.{tiny_script}

@@ -1,4 +1,4 @@
-use Rattle.std.proofs.Common.{ap, ◌∙◌, arith}
+use Rattle.std.proofs.Common.{ap, ◌∙◌}
 use Rattle.std.specs.Int.{w64}
 use Rattle.tinystr.specs.Shapes.{IsVariant}
 use Rattle.tinystr.specs.ShapesLaws.{tiny_variant}
