@@ -10,7 +10,8 @@ use crate::LanguageIdentifier;
 use crate::likelysubtags::{LikelyTables, maximize};
 use crate::subtags::{Language, Region, Script};
 
-/// The direction in which a text is written: from right to left, from left to right, from top to bottom.
+/// The direction in which a text is written: from right to left, from left to right, from top to
+/// bottom.
 #[derive(Clone, Copy, Debug, PartialEq, Eq)]
 pub enum CharacterDirection {
     RTL,
@@ -52,7 +53,8 @@ const LANGUAGES_RTL: [u64; 29] = [
 ];
 
 impl LanguageIdentifier {
-    /// The direction in which it is written: that of its script, else that of its language and region.
+    /// The direction in which it is written: that of its script, else that of its language and
+    /// region.
     pub fn character_direction(&self, tables: &LikelyTables) -> CharacterDirection
         ensures { result ≡ direction tables.now (triple_of self.now) }
     {

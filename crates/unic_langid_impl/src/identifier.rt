@@ -24,8 +24,8 @@ pub use print::canonicalize;
 pub use variants::VariantsIter;
 pub(crate) use variants::ascending;
 
-/// An identifier: a language, or none, and script, region and variants where they are there. Contracts see it as the record
-/// `Identifier` of its subtags' texts.
+/// An identifier: a language, or none, and script, region and variants where they are there.
+/// Contracts see it as the record `Identifier` of its subtags' texts.
 ///
 /// The variants are in order and distinct.
 #[derive(Debug, Drop)]
@@ -65,9 +65,11 @@ impl LanguageIdentifier {
         parser::parse_language_identifier(alloc, v).map_err(LanguageIdentifierError::of_parser)
     }
 
-    /// The identifier that the pieces begin with; where `allow_extension` is false it must be all of them.
+    /// The identifier that the pieces begin with; where `allow_extension` is false it must be all
+    /// of them.
     ///
-    /// Where no piece is left it is the identifier without subtags. The pieces that were read are taken off.
+    /// Where no piece is left it is the identifier without subtags. The pieces that were read are
+    /// taken off.
     pub fn try_from_iter(
         alloc: Global,
         iter: &mut SubtagPieces,
@@ -173,7 +175,8 @@ impl LanguageIdentifier {
         self.variants.as_slice().binary_search(&variant).is_ok()
     }
 
-    /// Puts these variants in the place of its own, each once. Where memory runs out it stays as it was.
+    /// Puts these variants in the place of its own, each once. Where memory runs out it stays as it
+    /// was.
     pub fn set_variants(&mut self, variants: &[Variant]) -> Result<(), AllocError>
         ensures ok { OnOk result
             (HasParts self.old.language self.old.script self.old.region variants.now self.new) }

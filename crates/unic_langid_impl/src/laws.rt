@@ -1,4 +1,5 @@
-//! Laws of identifiers, for contracts that cite them. Each function does nothing: its contract is the law.
+//! Laws of identifiers, for contracts that cite them. Each function does nothing: its contract is
+//! the law.
 ghost use Rattle.unic_langid_impl.specs.Laws.{IdDetermines, IdHasShape, MinimalIsLeast, PrintedIsRead};
 
 /// Bytes are at most one identifier, and each of its subtags has its shape.
@@ -12,8 +13,8 @@ pub fn printed_is_read()
     ensures { PrintedIsRead }
 {}
 
-/// What `minimize` answers has the maximal form that it started from, and nothing of that form's language with fewer subtags
-/// has it.
+/// What `minimize` answers has the maximal form that it started from, and nothing of that form's
+/// language with fewer subtags has it.
 pub fn minimal_is_least()
     ensures { MinimalIsLeast }
 {}

@@ -1,4 +1,5 @@
-//! Likely subtags (UTS 35, Part 1, section 4.3): the subtags that most likely stand where none are given.
+//! Likely subtags (UTS 35, Part 1, section 4.3): the subtags that most likely stand where none are
+//! given.
 //!
 //! The tables are handed in, as rows of texts.
 

@@ -5,7 +5,8 @@ use crate::LanguageIdentifier;
 use crate::likelysubtags::{self, LikelyTables};
 
 impl LanguageIdentifier {
-    /// Puts the maximal form of its language, script and region in their place, and answers whether there is one.
+    /// Puts the maximal form of its language, script and region in their place, and answers whether
+    /// there is one.
     pub fn maximize(&mut self, tables: &LikelyTables) -> bool
         ensures { MatchOption (maximal tables.now (triple_of self.old))
             ((result ≡ false) × (self.new ≡ self.old))
@@ -21,7 +22,8 @@ impl LanguageIdentifier {
         true
     }
 
-    /// Puts the minimal form of its language, script and region in their place, and answers whether there is one.
+    /// Puts the minimal form of its language, script and region in their place, and answers whether
+    /// there is one.
     pub fn minimize(&mut self, tables: &LikelyTables) -> bool
         ensures { MatchOption (minimal tables.now (triple_of self.old))
             ((result ≡ false) × (self.new ≡ self.old))

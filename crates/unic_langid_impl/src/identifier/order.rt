@@ -1,4 +1,5 @@
-//! Identifiers are compared, ordered and hashed by language, script, region and variants; what is missing comes first.
+//! Identifiers are compared, ordered and hashed by language, script, region and variants; what is
+//! missing comes first.
 ghost use Rattle.std.specs.Prelude.{Some, refl};
 ghost use Rattle.std.specs.Cmp.{partial_equiv_from_equiv};
 ghost use Rattle.unic_langid_impl.specs.Order.{identifier_cmp, identifier_eq, identifier_writes};

@@ -93,7 +93,8 @@ impl<'a> Model for Behind<'a> {
 
     ghost Value = { List (List ℕ) };
 
-    ghost view = { λ s. part (option_copied s.script) ++ (part (option_copied s.region) ++ s.variants.now) };
+    ghost view = { λ s. part (option_copied s.script)
+        ++ (part (option_copied s.region) ++ s.variants.now) };
 }
 
 impl<'a> Behind<'a> {

@@ -5,7 +5,8 @@ use super::LikelyTables;
 use super::rows::Subtags;
 use crate::subtags::{Language, Region, Script};
 
-/// The maximal form of a language, script and region, where the tables have one; none where all three are there.
+/// The maximal form of a language, script and region, where the tables have one; none where all
+/// three are there.
 pub fn maximize(
     tables: &LikelyTables,
     language: Language,
@@ -24,8 +25,8 @@ pub fn maximize(
     }
 }
 
-/// The least of the language alone, with its region and with its script whose maximal form is that of these subtags; where all
-/// three are there, they are that form.
+/// The least of the language alone, with its region and with its script whose maximal form is that
+/// of these subtags; where all three are there, they are that form.
 pub fn minimize(
     tables: &LikelyTables,
     language: Language,

@@ -13,9 +13,11 @@ use std::alloc::{AllocError, Global};
 use thiserror::Error;
 use writeable_core::{OwnedText, TextRow};
 
-/// The likely tables as rows of texts, each subtag in canonical case. Table and row are numbered from 0.
+/// The likely tables as rows of texts, each subtag in canonical case. Table and row are numbered
+/// from 0.
 ///
-/// The third cell of a row is its value: a printed identifier without variants, whose language isn't `und`.
+/// The third cell of a row is its value: a printed identifier without variants, whose language
+/// isn't `und`.
 #[derive(Drop)]
 pub struct LikelyRows {
     /// Table 0: a language, `und` among them, and an unused cell.
@@ -192,7 +194,8 @@ fn region(cell: &OwnedText) -> Option<Region>
 /// The value of a cell.
 pub(super) fn value(alloc: Global, cell: &OwnedText) -> Result<Option<Subtags>, AllocError>
     ensures { IfOk result
-        (λ value. MatchOption value ((t : Triple) → ¬ (PrintsTriple cell.now t)) (PrintsTriple cell.now)) }
+        (λ value. MatchOption value ((t : Triple) → ¬ (PrintsTriple cell.now t))
+        (PrintsTriple cell.now)) }
 {
     let text = cell.as_str();
     match parse_language_identifier(alloc, text.as_bytes()) {
@@ -203,11 +206,14 @@ pub(super) fn value(alloc: Global, cell: &OwnedText) -> Result<Option<Subtags>, 
     }
 }
 
-/// The parts of an identifier whose language is there, that has no variants and that prints as the text.
+/// The parts of an identifier whose language is there, that has no variants and that prints as the
+/// text.
 fn printed_triple(identifier: &LanguageIdentifier, text: &str) -> Option<Subtags>
     ensures { MatchOption result
-        ((t : Triple) → identifier_of t ≡ identifier.now → t.0 ≢ None → print identifier.now ≢ text.now)
-        (λ t. (identifier_of t ≡ identifier.now) × (t.0 ≢ None) × (print identifier.now ≡ text.now)) }
+        ((t : Triple) → identifier_of t ≡ identifier.now → t.0 ≢ None
+        → print identifier.now ≢ text.now)
+        (λ t. (identifier_of t ≡ identifier.now) × (t.0 ≢ None)
+        × (print identifier.now ≡ text.now)) }
 {
     if identifier.language.is_empty() || identifier.variants().len() > 0 {
         return None;

@@ -95,7 +95,8 @@ impl LanguageTables {
 
     fn of_language_region(&self, language: Language, region: &Option<Region>) -> Option<Subtags>
         ensures { result ≡
-            option_and_then (λ region. row language_pair_cmp self.now.lang_region (language, region)) region.now }
+            option_and_then
+            (λ region. row language_pair_cmp self.now.lang_region (language, region)) region.now }
     {
         let region = (*region)?;
         self.lang_region.get(&(language, region)).copied()
@@ -103,7 +104,8 @@ impl LanguageTables {
 
     fn of_language_script(&self, language: Language, script: &Option<Script>) -> Option<Subtags>
         ensures { result ≡
-            option_and_then (λ script. row language_pair_cmp self.now.lang_script (language, script)) script.now }
+            option_and_then
+            (λ script. row language_pair_cmp self.now.lang_script (language, script)) script.now }
     {
         let script = (*script)?;
         self.lang_script.get(&(language, script)).copied()
@@ -163,14 +165,16 @@ impl ScriptTables {
 
     fn of_script_region(&self, script: Script, region: &Option<Region>) -> Option<Subtags>
         ensures { result ≡
-            option_and_then (λ region. row pair_cmp self.now.script_region (script, region)) region.now }
+            option_and_then
+            (λ region. row pair_cmp self.now.script_region (script, region)) region.now }
     {
         let region = (*region)?;
         self.script_region.get(&(script, region)).copied()
     }
 
     fn of_region(&self, region: Option<Region>) -> Option<Subtags>
-        ensures { result ≡ option_and_then (λ region. row text_cmp self.now.region_only region) region }
+        ensures { result ≡
+            option_and_then (λ region. row text_cmp self.now.region_only region) region }
     {
         self.region_only.get(&region?).copied()
     }

@@ -5,7 +5,8 @@ ghost use Rattle.unic_langid_impl.specs.Cuts.{cut_pieces};
 
 use std::marker::Model;
 
-/// The pieces of a text, cut at `-` and `_`, that are not read yet. Contracts see the list of these.
+/// The pieces of a text, cut at `-` and `_`, that are not read yet. Contracts see the list of
+/// these.
 #[derive(Drop)]
 pub struct SubtagPieces<'a> {
     first: Option<&'a [u8]>,

@@ -20,9 +20,11 @@ pub fn parse_language_identifier(alloc: Global, t: &[u8]) -> Result<LanguageIden
     parse_language_identifier_from_iter(alloc, &mut SubtagPieces::new(t), false)
 }
 
-/// The identifier that the pieces begin with; where `allow_extension` is false it must be all of them.
+/// The identifier that the pieces begin with; where `allow_extension` is false it must be all of
+/// them.
 ///
-/// Where no piece is left it is the identifier without subtags. The pieces that were read are taken off.
+/// Where no piece is left it is the identifier without subtags. The pieces that were read are taken
+/// off.
 pub fn parse_language_identifier_from_iter(
     alloc: Global,
     iter: &mut SubtagPieces,

@@ -35,7 +35,8 @@ impl Language {
     /// The language that these bytes name in any case: two, three or five to eight letters.
     #[tactic(auto, using(crate::proofs::SubtagLemmas::tiny_language))]
     pub fn from_bytes(v: &[u8]) -> Result<Self, ParserError>
-        ensures value { OkIff result (IsLanguage (lowercase v.now)) (language_of (lowercase v.now)) }
+        ensures value { OkIff result (IsLanguage (lowercase v.now))
+            (language_of (lowercase v.now)) }
         ensures cause { IfErr result (λ error. error ≡ ParserError.InvalidLanguage) }
     {
         let Ok(text) = TinyStr::<8>::try_from_bytes(v) else {
@@ -53,7 +54,8 @@ impl Language {
 
     /// No language for None, else as `from_bytes`.
     pub fn try_from_option(v: Option<&[u8]>) -> Result<Self, ParserError>
-        ensures value { OkIff result (IfSome (option_copied v.entry) (λ v. IsLanguage (lowercase v)))
+        ensures value { OkIff result
+            (IfSome (option_copied v.entry) (λ v. IsLanguage (lowercase v)))
             (option_and_then (λ v. language_of (lowercase v)) (option_copied v.entry)) }
         ensures cause { IfErr result (λ error. error ≡ ParserError.InvalidLanguage) }
     {

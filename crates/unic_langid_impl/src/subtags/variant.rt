@@ -12,7 +12,8 @@ use std::fmt;
 use std::marker::Model;
 use tinystr::TinyStr;
 
-/// A variant: five to eight letters or digits, or a digit and three of them, as `valencia` or `1996`.
+/// A variant: five to eight letters or digits, or a digit and three of them, as `valencia` or
+/// `1996`.
 #[derive(Clone, Copy, Debug, PartialEq, Eq, PartialOrd, Ord, Hash)]
 pub struct Variant {
     text: TinyStr<8>,
