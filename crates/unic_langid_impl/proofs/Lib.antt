@@ -1,0 +1,11 @@
+pub mod CellLemmas
+pub mod Determined
+pub mod Least
+pub mod NumberLemmas
+pub mod PieceLemmas
+pub mod PrintLemmas
+pub mod RawLemmas
+pub mod ReadingLemmas
+pub mod SubtagLemmas
+pub mod TableLemmas
+pub mod VariantLemmas

@@ -1,0 +1,21 @@
+use Rattle.std.proofs.Common.{sym, ◌∙◌}
+use Rattle.std.proofs.lemmas.Bool.{false≢true}
+use Rattle.unic_langid_impl.proofs.CellLemmas.{language-cell, language-none, language-other}
+use Rattle.unic_langid_impl.proofs.likelysubtags.rows.language.Goals as goal
+
+pub returns-in_default : goal.returns-in_default
+returns-in_default c =
+    language-none c.as_str-text.result.now c.args.cell.now c.as_str-text.utf8 c.as_str-text.ensures
+    (rw c.as_bytes.ensures.value at c.in_default.ensures.value)
+
+pub returns-then-eq_str : goal.returns-then-eq_str
+returns-then-eq_str c =
+    let read = rw c.as_bytes.ensures.value at c.in-Ok.ensures.value in
+    language-cell c.as_str-text.result.now c.args.cell.now c.as_str-text.utf8 c.as_str-text.ensures c.in-Ok.language read.0 read.1
+    (c.eq_str.ensures.0 c.if-eq_str.true)
+
+pub returns-else-eq_str : goal.returns-else-eq_str
+returns-else-eq_str c =
+    let read = rw c.as_bytes.ensures.value at c.in-Ok.ensures.value in
+    language-other c.as_str-text.result.now c.args.cell.now c.as_str-text.utf8 c.as_str-text.ensures c.in-Ok.language read.1
+    (λ e. false≢true (sym c.if-eq_str.false ∙ c.eq_str.ensures.1 e))

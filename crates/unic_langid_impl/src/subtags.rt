@@ -1,0 +1,14 @@
+//! The subtags of an identifier in canonical case (UTS 35, Part 1, section 3.2), each a copied
+//! value that is compared, ordered and hashed as its text.
+
+mod characters;
+mod language;
+mod raw;
+mod region;
+mod script;
+mod variant;
+
+pub use language::Language;
+pub use region::Region;
+pub use script::Script;
+pub use variant::Variant;
