@@ -1,4 +1,4 @@
--- The shapes of subtags in canonical case: UTS 35, Part 1, section 3.2, and RFC 5646, section 2.1; on case, RFC 5646,
+-- The shapes of subtags in canonical case: UTS 35, Unicode locale identifiers, and RFC 5646, section 2.1; on case, RFC 5646,
 -- section 2.1.1. A text in any case has a shape where it has it in canonical case.
 use Rattle.std.specs.Prelude.{ℕ, Bool, ◌&&◌, ◌||◌, ◌==◌, List, length, drop, slice_index, IsTrue}
 use Rattle.std.specs.Char.{is_ascii_digit, is_ascii_lowercase, is_ascii_uppercase}

@@ -6,9 +6,9 @@ use Rattle.std.specs.Cmp.Lexicographic.{bytes_decides, nat_list_eq_equiv, option
 use Rattle.std.specs.Option.{option_eq}
 use Rattle.std.proofs.lemmas.Bool.{false≢true}
 use Rattle.unic_langid_impl.specs.Likely.{IsLeast, Tables, Triple, count, full, maximal, maximises_to, minimal, subtag_count, trials, triple_eq}
-use Rattle.unic_langid_impl.specs.Order.{text_eq}
+use Rattle.unic_langid_impl.specs.Order.{same_text}
 
-option_same : (p q : Option (List ℕ)) → option_eq text_eq p q ≡ true → p ≡ q
+option_same : (p q : Option (List ℕ)) → option_eq same_text p q ≡ true → p ≡ q
 option_same None None e = refl
 option_same None (Some y) e = cc
 option_same (Some x) None e = cc
@@ -16,10 +16,10 @@ option_same (Some x) (Some y) e = ap Some ((bytes_decides x y).0 e)
 
 triple_eq-same : (t u : Triple) → triple_eq t u ≡ true → t ≡ u
 triple_eq-same t u e =
-    let two = first_so (option_eq text_eq t.0 u.0 && option_eq text_eq t.1 u.1) (option_eq text_eq t.2 u.2) e in
-    let language = option_same t.0 u.0 (first_so (option_eq text_eq t.0 u.0) (option_eq text_eq t.1 u.1) two) in
-    let script = option_same t.1 u.1 (second_so (option_eq text_eq t.0 u.0) (option_eq text_eq t.1 u.1) two) in
-    let region = option_same t.2 u.2 (second_so (option_eq text_eq t.0 u.0 && option_eq text_eq t.1 u.1) (option_eq text_eq t.2 u.2) e) in
+    let two = first_so (option_eq same_text t.0 u.0 && option_eq same_text t.1 u.1) (option_eq same_text t.2 u.2) e in
+    let language = option_same t.0 u.0 (first_so (option_eq same_text t.0 u.0) (option_eq same_text t.1 u.1) two) in
+    let script = option_same t.1 u.1 (second_so (option_eq same_text t.0 u.0) (option_eq same_text t.1 u.1) two) in
+    let region = option_same t.2 u.2 (second_so (option_eq same_text t.0 u.0 && option_eq same_text t.1 u.1) (option_eq same_text t.2 u.2) e) in
     λ i. (language i, script i, region i)
 
 triple_eq-itself : (t : Triple) → triple_eq t t ≡ true

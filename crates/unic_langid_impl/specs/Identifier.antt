@@ -1,4 +1,4 @@
--- Unicode language identifiers (UTS 35, Part 1, section 3) as values: four parts, and the text that they print.
+-- Unicode language identifiers (UTS 35) as values: four parts, and the text that they print.
 use Rattle.std.specs.Prelude.{ℕ, List, [], ◌∷◌, ◌++◌, Option, Some, None, IfSome, refl}
 use Rattle.std.specs.Cmp.Lexicographic.{slice_cmp}
 use Rattle.std.specs.Coded.{Coded, code_by, coded×, coded_ℕ, coded_list, coded_option}

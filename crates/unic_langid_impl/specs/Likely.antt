@@ -1,4 +1,4 @@
--- Likely subtags (UTS 35, Part 1, section 4.3): the tables, and the maximal and minimal forms of a language, script and region.
+-- Likely subtags (UTS 35): the tables, and the maximal and minimal forms of a language, script and region.
 use Rattle.std.specs.Prelude.{ℕ, Bool, ◌&&◌, if◌then◌else◌, ◌≡◌, ◌≢◌, ◌+◌, ◌<◌, List, [], ◌∷◌, ◌++◌, Option, Some, None, is_some, find, option_and_then}
 use Rattle.std.specs.BTreeMap.{is_at}
 use Rattle.std.specs.Map.{lookup}
@@ -6,7 +6,7 @@ use Rattle.std.specs.Option.{option_cmp, option_eq, option_map, option_or}
 use Rattle.std.specs.Ordering.{ordering_then}
 use Rattle.std.specs.declared.cmp.Ordering.{Ordering}
 use Rattle.unic_langid_impl.specs.Identifier.{Identifier, text_cmp}
-use Rattle.unic_langid_impl.specs.Order.{text_eq}
+use Rattle.unic_langid_impl.specs.Order.{same_text}
 
 -- language, script and region
 abbrev pub Triple : Type 0
@@ -24,7 +24,7 @@ abbrev pub with_triple : Identifier → Triple → Identifier
 with_triple i t = record i { language = t.0; script = t.1; region = t.2 }
 
 abbrev pub triple_eq : Triple → Triple → Bool
-triple_eq t u = (option_eq text_eq t.0 u.0 && option_eq text_eq t.1 u.1) && option_eq text_eq t.2 u.2
+triple_eq t u = (option_eq same_text t.0 u.0 && option_eq same_text t.1 u.1) && option_eq same_text t.2 u.2
 
 -- A table from keys to triples, as its rows in the order of their keys, each key once.
 abbrev pub Table : Type 0 → Type 0

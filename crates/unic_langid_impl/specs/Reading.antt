@@ -1,4 +1,4 @@
--- Which identifier a text is (UTS 35, Part 1, section 3.2, with `und` as the language that is missing), what a reader
+-- Which identifier a text is (UTS 35, Unicode locale identifiers, with `und` as the language that is missing), what a reader
 -- takes of pieces, and why it refuses them.
 use Rattle.std.specs.Prelude.{◌≡◌, ◌≢◌, ◌↔◌, ℕ, Bool, false, List, [], ◌∷◌, ◌++◌, map, drop, Option, IfSome, IsSomeAnd}
 use Rattle.std.specs.List.{All, Contains}

@@ -1,4 +1,4 @@
--- The subtags of a Unicode language identifier (UTS 35, Part 1, section 3.2) in canonical case, and how each is read in
+-- The subtags of a Unicode language identifier (UTS 35, Unicode locale identifiers) in canonical case, and how each is read in
 -- any case.
 use Rattle.std.specs.Prelude.{◌≡◌, ℕ, Bool, true, ◌&&◌, ◌||◌, ◌⊎◌, not, if◌then◌else◌, List, length, map, Option, Some, None, IfSome, unwrap_or, IsTrue, codes}
 use Rattle.std.specs.Char.{is_ascii_lowercase, to_ascii_lowercase, to_ascii_uppercase}

@@ -1,4 +1,4 @@
-//! Unicode language identifiers (UTS 35, Part 1, section 3).
+//! Unicode language identifiers, as UTS 35 has them.
 //!
 //! A [`LanguageIdentifier`] has a language, or none (`und`), and may have a script, a region and
 //! variants. It is read from bytes in any case and prints in canonical case; its subtags are small

@@ -1,4 +1,4 @@
-//! Likely subtags (UTS 35, Part 1, section 4.3): the subtags that most likely stand where none are
+//! Likely subtags (UTS 35): the subtags that most likely stand where none are
 //! given.
 //!
 //! The tables are handed in, as rows of texts.

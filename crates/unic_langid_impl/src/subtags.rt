@@ -1,4 +1,4 @@
-//! The subtags of an identifier in canonical case (UTS 35, Part 1, section 3.2), each a copied
+//! The subtags of an identifier in canonical case (UTS 35, Unicode locale identifiers), each a copied
 //! value that is compared, ordered and hashed as its text.
 
 mod characters;
