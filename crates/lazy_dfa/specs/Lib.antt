@@ -1,0 +1,4 @@
+pub mod Expression
+pub mod Meaning
+pub mod Positions
+pub mod Syntax
