@@ -1,3 +1,4 @@
 pub mod Ranges
 pub mod Bounds
 pub mod Automaton
+pub mod Texts
