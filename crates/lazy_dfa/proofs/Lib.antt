@@ -1,4 +1,5 @@
 pub mod Ranges
 pub mod Bounds
-pub mod Automaton
+pub mod Reaching
 pub mod Texts
+pub mod Sets

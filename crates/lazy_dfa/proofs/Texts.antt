@@ -8,7 +8,7 @@ use Rattle.lazy_dfa.specs.Meaning.{Chain, done, step, ReadsAt, Reading, match, h
 use Rattle.lazy_dfa.specs.Positions.{empty, first, last, follow, reads}
 use Rattle.lazy_dfa.proofs.Ranges.{Within}
 use Rattle.lazy_dfa.proofs.Bounds.{chain_le, chain_every, Reading_le, Reaches_is, Agree, Reading_agree, Reaches_agree}
-use Rattle.lazy_dfa.proofs.Automaton.{Reading_any, empty_reads, last_reads, Whole, read_whole, ReadBy, first_reached, reached_first, reached_read, Behind, reached_behind, follow_reached}
+use Rattle.lazy_dfa.proofs.Reaching.{Reading_any, empty_reads, last_reads, Whole, read_whole, ReadBy, first_reached, reached_first, reached_read, Behind, reached_behind, follow_reached}
 
 -- ---- a text that another begins with
 

@@ -1,3 +1,5 @@
 #![tactic(auto)]
 
-pub fn nothing() {}
+mod automaton;
+mod characters;
+mod positions;
