@@ -52,3 +52,6 @@ size (Choice a b) = size a + size b
 size (Star a) = size a
 size (Plus a) = size a
 size (Optional a) = size a
+
+abbrev pub set_of : Bool → List (ℕ × ℕ) → CharacterSet
+set_of negated ranges = record { negated = negated; ranges = ranges }

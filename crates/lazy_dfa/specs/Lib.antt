@@ -5,3 +5,4 @@ pub mod Syntax
 pub mod Parsing
 pub mod Sets
 pub mod Compiled
+pub mod Building

@@ -2,7 +2,9 @@
 
 ghost use Rattle.std.specs.Prelude.{◌≤◌};
 
-use crate::positions::{Positions, has, union};
+use crate::part::Part;
+use crate::positions::{Positions, has, only, union, union_if};
+use std::alloc::{AllocError, Global};
 
 /// The most atoms that a condition has.
 pub const MOST: usize = 64;
@@ -64,5 +66,59 @@ impl Automaton {
         ensures { (p : ℕ) → has result p ≡ (has next p && atom_reads self.now.ranges.items self.now.negated p c) }
     {
         next & (self.inside(c) ^ self.negated)
+    }
+}
+
+/// Building.
+impl Automaton {
+    ghost use Rattle.std.specs.Prelude.{◌≡◌, ◌<◌, ◌+◌, ◌^◌, ◌∷◌, [], ℕ, List, OnOk};
+    ghost use Rattle.lazy_dfa.specs.Compiled.{Adds, AddsRanges, IsFresh, Linked, Sums};
+    ghost use Rattle.lazy_dfa.specs.Expression.{CharacterSet, OneOf};
+    ghost use Rattle.lazy_dfa.specs.declared.automaton.Automaton.{Automaton};
+
+    /// An automaton without atoms.
+    pub fn new(alloc: Global) -> Automaton
+        ensures sized { result.size ≡ 0 }
+        ensures fresh { IsFresh result }
+    {
+        Automaton {
+            ranges: Vec::new(alloc),
+            negated: 0,
+            follow: [0; MOST],
+            size: 0,
+        }
+    }
+
+    /// Adds a range of the atom that comes next.
+    pub fn add_range(&mut self, first: char, last: char) -> Result<(), AllocError>
+        requires { self.old.size < 64 }
+        ensures { OnOk result (AddsRanges self.old (2 ^ self.old.size) ((first, last) ∷ []) self.new) }
+    {
+        let atom = only(self.size);
+        self.ranges.push(Range { first, last, atom })?;
+        Ok(())
+    }
+
+    /// Adds the atom whose ranges were added last.
+    pub fn add_atom(&mut self, negated: bool) -> Part
+        requires { self.old.size < 64 }
+        ensures part { (set : CharacterSet) → Sums result (OneOf set) self.old.size }
+        ensures added { (before : Automaton) (rs : List (ℕ × ℕ)) → IsFresh before → AddsRanges before (2 ^ before.size) rs self.old → Adds before (OneOf (record { negated = negated; ranges = rs })) self.new }
+    {
+        let place = self.size;
+        self.negated = union_if(negated, self.negated, only(place));
+        self.size += 1;
+        Part::atom(place)
+    }
+
+    /// Lets each of the first atoms read behind each of the last ones.
+    pub fn link(&mut self, last: Positions, first: Positions)
+        ensures { Linked self.old last first self.new }
+    {
+        for place in 0..self.size {
+            if has(last, place) {
+                self.follow[place] = union(self.follow[place], first);
+            }
+        }
     }
 }

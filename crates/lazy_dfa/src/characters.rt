@@ -1,9 +1,10 @@
 //! What single characters of a condition mean.
 
-ghost use Rattle.std.specs.Prelude.{◌≡◌};
+ghost use Rattle.std.specs.Prelude.{◌≡◌, ◌∷◌, []};
 ghost use Rattle.std.specs.Option.{option_map};
 ghost use Rattle.lazy_dfa.specs.Syntax.{is_literal, is_plain, is_punctuation};
-ghost use Rattle.lazy_dfa.specs.Parsing.{behind, class_character_at, item_at, plain_at, punctuation_at};
+ghost use Rattle.lazy_dfa.specs.Parsing.{behind, class_character_at, item_at, plain_at, punctuation_at, single_at};
+ghost use Rattle.lazy_dfa.specs.Expression.{set_of};
 
 /// What stands behind a character, where the text begins with it.
 pub fn behind(text: &[char], c: char) -> Option<&[char]>
@@ -22,7 +23,7 @@ fn is_punctuation(c: char) -> bool
 }
 
 /// Whether a character stands for itself outside classes.
-pub fn is_literal(c: char) -> bool
+fn is_literal(c: char) -> bool
     ensures { result ≡ is_literal c }
 {
     !matches!(
@@ -39,7 +40,7 @@ fn is_plain(c: char) -> bool
 }
 
 /// The punctuation that the text begins with.
-pub fn punctuation(text: &[char]) -> Option<(char, &[char])>
+fn punctuation(text: &[char]) -> Option<(char, &[char])>
     ensures { option_map (λ x. (x.0, x.1.now)) result ≡ punctuation_at text.now }
 {
     let (first, rest) = text.split_first()?;
@@ -79,6 +80,29 @@ pub fn item(text: &[char]) -> Option<(char, char, &[char])>
     let (last, rest) = class_character(rest)?;
     if first <= last {
         Some((first, last, rest))
+    } else {
+        None
+    }
+}
+
+/// The set of the one character that the text begins with, where that is an atom: whether it is
+/// negated, and its range.
+pub fn single(text: &[char]) -> Option<(bool, char, char, &[char])>
+    ensures { option_map (λ x. (set_of x.0 ((x.1, x.2) ∷ []), x.3.now)) result ≡ single_at text.now }
+{
+    if let Some(rest) = behind(text, '.') {
+        return Some((true, '\n', '\n', rest));
+    }
+    if let Some(escaped) = behind(text, '\\') {
+        if let Some(rest) = behind(escaped, 'd') {
+            return Some((false, '0', '9', rest));
+        }
+        let (c, rest) = punctuation(escaped)?;
+        return Some((false, c, c, rest));
+    }
+    let (c, rest) = text.split_first()?;
+    if is_literal(*c) {
+        Some((false, *c, *c, rest))
     } else {
         None
     }

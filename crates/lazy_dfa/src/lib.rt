@@ -2,4 +2,6 @@
 
 mod automaton;
 mod characters;
+mod parser;
+mod part;
 mod positions;

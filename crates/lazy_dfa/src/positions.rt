@@ -9,7 +9,8 @@ pub type Positions = u64;
 /// The set of one place.
 pub fn only(place: usize) -> Positions
     requires { place < 64 }
-    ensures { (p : ℕ) → has result p ≡ (p == place) }
+    ensures bits { result ≡ 2 ^ place }
+    ensures place { (p : ℕ) → has result p ≡ (p == place) }
 {
     1 << place
 }
@@ -34,4 +35,11 @@ pub fn meet(left: Positions, right: Positions) -> bool
     ensures { IsTrue result ↔ Meet left right }
 {
     left & right != 0
+}
+
+/// The places of the left set, and where the condition is true those of the right one.
+pub fn union_if(condition: bool, left: Positions, right: Positions) -> Positions
+    ensures { (p : ℕ) → has result p ≡ (has left p || (condition && has right p)) }
+{
+    if condition { union(left, right) } else { left }
 }

@@ -4,5 +4,8 @@ use Rattle.lazy_dfa.specs.Sets.{has}
 use Rattle.lazy_dfa.proofs.Sets.{has-only}
 use Rattle.lazy_dfa.proofs.positions.only.Goals as goal
 
-pub returns : goal.returns
-returns c = λ p. ap (λ n. has n p) (one_shl c.args.place 64 c.requires) ∙ has-only c.args.place p
+pub returns-clause-bits : goal.returns-clause-bits
+returns-clause-bits c = one_shl c.args.place 64 c.requires
+
+pub returns-clause-place : goal.returns-clause-place
+returns-clause-place c = λ p. ap (λ n. has n p) (one_shl c.args.place 64 c.requires) ∙ has-only c.args.place p
