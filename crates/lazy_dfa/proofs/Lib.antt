@@ -6,3 +6,4 @@ pub mod Sets
 pub mod Building
 pub mod Linking
 pub mod Repeating
+pub mod ReadingSteps

@@ -7,7 +7,7 @@ use Rattle.lazy_dfa.specs.declared.part.Part.{Part}
 use Rattle.lazy_dfa.specs.declared.parser.Parsed.{Parsed}
 use Rattle.lazy_dfa.specs.declared.parser.Stop.{Stop}
 use Rattle.lazy_dfa.specs.declared.parser.Stop.TheVariants.{NoMemory, Left}
-use Rattle.lazy_dfa.specs.Expression.{CharacterSet, Expression, OneOf}
+use Rattle.lazy_dfa.specs.Expression.{Expression, OneOf, set_of}
 use Rattle.lazy_dfa.specs.Compiled.{IsFresh, Adds, AddsRanges, Sums}
 use Rattle.lazy_dfa.specs.Parsing.{Run, Alternatives, Found, found, Reader, Reads, parse, items_at, suffixed}
 
@@ -45,3 +45,12 @@ ReadsItems text old new (Err e) = Unit {0}
 abbrev pub Repeats : Automaton → Parsed → Automaton → Parsed → Type 0
 Repeats old atom new p = (e : Expression) (before : Automaton) (text : List ℕ) → Builds e before text atom old
     → (f : Expression) × (suffixed (found e atom.rest.now) ≡ found f p.rest.now) × Builds f before text p new × (length p.rest.now ≤ length atom.rest.now)
+
+-- a class was read, from its first item on
+abbrev pub ReadsClass : ℕ → Bool → List ℕ → Automaton → Automaton → Result (Option Parsed) Stop → Type 0
+ReadsClass left negated text old new (Ok (Some p)) =
+    (rs : List (ℕ × ℕ)) × (items_at (length text) text ≡ Some (rs, p.rest.now))
+    × Sums p.part (OneOf (set_of negated rs)) old.size × Adds old (OneOf (set_of negated rs)) new × (length p.rest.now < length text)
+ReadsClass left negated text old new (Ok None) = ⊥
+ReadsClass left negated text old new (Err NoMemory) = Unit {0}
+ReadsClass left negated text old new (Err (Left l)) = (l ≡ left) × (items_at (length text) text ≡ None)

@@ -33,7 +33,7 @@ impl From<AllocError> for Stop {
 
 impl Automaton {
     ghost use Rattle.std.specs.Prelude.{◌≡◌, ◌+◌, ◌≤◌, ◌<◌, length, None, Some};
-    ghost use Rattle.lazy_dfa.specs.Building.{ReadsItems, ReadsOne, ReadsRun, Repeats};
+    ghost use Rattle.lazy_dfa.specs.Building.{ReadsClass, ReadsItems, ReadsOne, ReadsRun, Repeats};
     ghost use Rattle.lazy_dfa.specs.Compiled.{IsFresh};
     ghost use Rattle.lazy_dfa.specs.Parsing.{Alternatives, Parts, atom_at, behind, rep_at};
 
@@ -142,12 +142,20 @@ impl Automaton {
         requires opened { behind 91 text.now ≡ Some items.now }
         ensures { ReadsOne atom_at text.now self.old self.new result }
     {
-        let (negated, items) = match behind(items, '^') {
-            Some(rest) => (true, rest),
-            None => (false, items),
-        };
+        match behind(items, '^') {
+            Some(others) => self.class_of(text.len(), true, others),
+            None => self.class_of(text.len(), false, items),
+        }
+    }
+
+    /// A class from its first item on, where so many characters are left before it.
+    fn class_of<'a>(&mut self, left: usize, negated: bool, items: &'a [char]) -> Result<Option<Parsed<'a>>, Stop>
+        requires fresh { IsFresh self.old }
+        requires room { self.old.size < 64 }
+        ensures { ReadsClass left negated items.now self.old self.new result }
+    {
         let Some(rest) = self.items(items)? else {
-            return Err(Stop::Left(text.len()));
+            return Err(Stop::Left(left));
         };
         let part = self.add_atom(negated);
         Ok(Some(Parsed { part, rest }))
