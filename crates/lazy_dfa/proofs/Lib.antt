@@ -7,3 +7,4 @@ pub mod Building
 pub mod Linking
 pub mod Repeating
 pub mod ReadingSteps
+pub mod Grammar

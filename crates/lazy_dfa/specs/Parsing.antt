@@ -176,7 +176,7 @@ pub data Run : Type 0 where
   Parts : Run
 
 unfoldable pub parse : ℕ → Run → Reader
-parse zero run t = Err 0
+parse zero run t = Err (length t)
 parse (suc k) Alternatives t = alt_by (parse k Alternatives) (parse k Parts t)
 parse (suc k) Parts t = seq_by (parse k Parts) t (rep_at (parse k Alternatives) t)
 
