@@ -89,7 +89,7 @@ leads c t a b d e = record {
   some = omega arith;
 }
 
-atom_leads : {x : List ℕ} {e : Expression} (t : List ℕ) → IsPart Atom x e → Leads (x ++ t)
+pub atom_leads : {x : List ℕ} {e : Expression} (t : List ℕ) → IsPart Atom x e → Leads (x ++ t)
 atom_leads t (group {x = x} h) = leads 40 ((x ++ 41 ∷ []) ++ t) refl refl refl refl
 atom_leads t dot = leads 46 t refl refl refl refl
 atom_leads t (class {x = x} h) = leads 91 ((x ++ 93 ∷ []) ++ t) refl refl refl refl
@@ -98,7 +98,7 @@ atom_leads t syntax.digits = leads 92 (100 ∷ t) refl refl refl refl
 atom_leads t (escaped {c = c} h) = leads 92 (c ∷ t) refl refl refl refl
 atom_leads t (literal {c = c} h) = leads c t (unlike c 42 is_literal h refl) (unlike c 43 is_literal h refl) (unlike c 63 is_literal h refl) (unlike c 36 is_literal h refl)
 
-rep_leads : {x : List ℕ} {e : Expression} (t : List ℕ) → IsPart Rep x e → NoSuffix (x ++ t) × (0 < length (x ++ t))
+pub rep_leads : {x : List ℕ} {e : Expression} (t : List ℕ) → IsPart Rep x e → NoSuffix (x ++ t) × (0 < length (x ++ t))
 rep_leads t (once h) = let l = atom_leads t h in (l.suffix, l.some)
 rep_leads t (star {x = x} h) = let l = atom_leads (42 ∷ t) h in rw (append_assoc x (42 ∷ []) t) (l.suffix, l.some)
 rep_leads t (plus {x = x} h) = let l = atom_leads (43 ∷ t) h in rw (append_assoc x (43 ∷ []) t) (l.suffix, l.some)
@@ -116,7 +116,7 @@ stops_end = record { suffix = record { star = refl; plus = refl; optional = refl
 stops_close : (t : List ℕ) → Stops (41 ∷ t)
 stops_close t = record { suffix = record { star = refl; plus = refl; optional = refl }; none = λ inside. refl }
 
-stops_bar : (t : List ℕ) → Stops (124 ∷ t)
+pub stops_bar : (t : List ℕ) → Stops (124 ∷ t)
 stops_bar t = record { suffix = record { star = refl; plus = refl; optional = refl }; none = λ inside. refl }
 
 -- what stands behind an alternative of sequences: nothing, or a closing parenthesis
@@ -144,13 +144,13 @@ Exact Atom x e = (t : List ℕ) (k : ℕ) → 2 * length (x ++ t) ≤ k → atom
 longer : (x t : List ℕ) → length (x ++ t) ≡ length x + length t
 longer x t = length-append x t
 
-rep_some : {x : List ℕ} {e : Expression} → IsPart Rep x e → 0 < length x
+pub rep_some : {x : List ℕ} {e : Expression} → IsPart Rep x e → 0 < length x
 rep_some {x} r = let l = (rep_leads [] r).1 in omega (arith, longer x [], l)
 
 suffixed_none : (e : Expression) (t : List ℕ) → NoSuffix t → suffixed (found e t) ≡ found e t
 suffixed_none e t fails = ap (λ o. suffixed_by (found e t) o (behind 43 t) (behind 63 t)) fails.star ∙ ap (λ o. suffixed_by (found e t) None o (behind 63 t)) fails.plus ∙ ap (λ o. suffixed_by (found e t) None None o) fails.optional
 
-rep_of_atom : (inside : Reader) (u : List ℕ) (p : Found) → Leads u → atom_at inside u ≡ Ok (Some p) → rep_at inside u ≡ Ok (Some (suffixed p))
+pub rep_of_atom : (inside : Reader) (u : List ℕ) (p : Found) → Leads u → atom_at inside u ≡ Ok (Some p) → rep_at inside u ≡ Ok (Some (suffixed p))
 rep_of_atom inside u p l h = ap (rep_by inside u) l.end ∙ ap repeated h
 
 single_atom : (inside : Reader) (t : List ℕ) (x : CharacterSet × List ℕ) → behind 40 t ≡ None → behind 91 t ≡ None → single_at t ≡ Some x → atom_at inside t ≡ Ok (Some (found (OneOf x.0) x.1))

@@ -8,3 +8,4 @@ pub mod Linking
 pub mod Repeating
 pub mod ReadingSteps
 pub mod Grammar
+pub mod Longest
