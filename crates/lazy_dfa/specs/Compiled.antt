@@ -39,13 +39,6 @@ pub record Adds (old : Automaton) (e : Expression) (new : Automaton) : Type 0 wh
   pub atoms : (p c : ℕ) → old.size ≤ p → atom_reads new.ranges.items new.negated p c ≡ reads e old.size p c
   pub fresh : IsFresh new
 
--- the automaton and the part of a whole condition
-pub record IsFor (automaton : Automaton) (part : Part) (e : Expression) : Type 0 where
-  pub sums : Sums part e 0
-  pub sized : automaton.size ≡ size e
-  pub follows : (p q : ℕ) → has (slice_index automaton.follow p) q ≡ follow e 0 p q
-  pub atoms : (p c : ℕ) → atom_reads automaton.ranges.items automaton.negated p c ≡ reads e 0 p c
-
 -- each atom of `first` can read behind each of `last`; all else stays
 pub record Linked (old : Automaton) (last first : ℕ) (new : Automaton) : Type 0 where
   pub ranges : new.ranges.items ≡ old.ranges.items

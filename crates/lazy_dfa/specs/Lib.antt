@@ -6,3 +6,6 @@ pub mod Parsing
 pub mod Sets
 pub mod Compiled
 pub mod Building
+pub mod Machine
+pub mod Words
+pub mod Refusals
