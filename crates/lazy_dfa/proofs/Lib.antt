@@ -9,3 +9,4 @@ pub mod Repeating
 pub mod ReadingSteps
 pub mod Grammar
 pub mod Longest
+pub mod Compiling

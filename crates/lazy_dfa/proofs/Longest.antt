@@ -364,3 +364,6 @@ no_alt_err t l reads = λ e h. let same = alt_whole t e (Err l) reads h in absur
 
 pub no_alt_rest : (t : List ℕ) (p : Found) → Reads Alternatives t (Ok p) → (length p.rest ≡ 0 → ⊥) → IsNoAlt t
 no_alt_rest t p reads more = λ e h. more (ap left_of (alt_whole t e (Ok p) reads h))
+
+pub left_within : (t : List ℕ) (r : Result Found ℕ) → Reads Alternatives t r → left_of r ≤ length t
+left_within t r reads = omega (arith, alternatives_left (needed Alternatives t) t, ap left_of (reads.parsed (needed Alternatives t) (omega arith)))

@@ -26,3 +26,10 @@ IsRefused pattern NotAnchored = (text : List ℕ) → Anchored pattern text → 
 IsRefused pattern TooLong = (text : List ℕ) × Anchored pattern text × (most_characters < length text)
 IsRefused pattern (Syntax place) = (text : List ℕ) × Anchored pattern text × (length text ≤ most_characters) × IsNoAlt text × LongestAlt text place
 IsRefused pattern NoMemory = Unit {0}
+
+-- the text behind `^` is no condition, or memory ran out
+abbrev pub IsUnread : List ℕ → ConditionError → Type 0
+IsUnread text (Syntax place) = IsNoAlt text × LongestAlt text place
+IsUnread text NoMemory = Unit {0}
+IsUnread text NotAnchored = ⊥
+IsUnread text TooLong = ⊥

@@ -32,7 +32,8 @@ impl Model for Condition {
 impl Condition {
     ghost use Rattle.lazy_dfa.specs.Expression.{Expression};
     ghost use Rattle.lazy_dfa.specs.Machine.{IsFor};
-    ghost use Rattle.lazy_dfa.specs.Refusals.{IsRefused, condition};
+    ghost use Rattle.lazy_dfa.specs.Refusals.{IsRefused, IsUnread, condition};
+    ghost use Rattle.lazy_dfa.specs.Syntax.{alt};
 
     /// The condition that a pattern is.
     pub fn new(alloc: Global, pattern: &str) -> Result<Condition, ConditionError>
@@ -47,23 +48,26 @@ impl Condition {
         if text.len() > MOST {
             return Err(ConditionError::TooLong);
         }
-        compiled(alloc, text)
+        Condition::compiled(alloc, text)
     }
-}
 
-/// The condition that stands behind `^`.
-fn compiled(alloc: Global, text: &[char]) -> Result<Condition, ConditionError>
-    requires { length text.now ≤ 64 }
-{
-    let mut automaton = Automaton::new(alloc);
-    match automaton.alternatives(text) {
-        Ok(parsed) if parsed.rest.is_empty() => Ok(Condition {
-            automaton,
-            whole: parsed.part,
-        }),
-        Ok(parsed) => Err(ConditionError::Syntax(text.len() - parsed.rest.len())),
-        Err(Stop::Left(left)) => Err(ConditionError::Syntax(text.len() - left)),
-        Err(Stop::NoMemory) => Err(ConditionError::NoMemory),
+    /// The condition that stands behind `^`.
+    fn compiled(alloc: Global, text: &[char]) -> Result<Condition, ConditionError>
+        requires { length text.now ≤ 64 }
+        ensures ok { IfOk result (λ c. (e : Expression) × alt text.now e × IsFor c e) }
+        ensures err { IfErr result (IsUnread text.now) }
+    {
+        let mut automaton = Automaton::new(alloc);
+        let parsed = match automaton.alternatives(text) {
+            Ok(parsed) => parsed,
+            Err(Stop::NoMemory) => return Err(ConditionError::NoMemory),
+            Err(Stop::Left(left)) => return Err(ConditionError::Syntax(text.len() - left)),
+        };
+        if !parsed.rest.is_empty() {
+            return Err(ConditionError::Syntax(text.len() - parsed.rest.len()));
+        }
+        let whole = parsed.part;
+        Ok(Condition { automaton, whole })
     }
 }
 
