@@ -10,3 +10,5 @@ pub mod ReadingSteps
 pub mod Grammar
 pub mod Longest
 pub mod Compiling
+pub mod Advancing
+pub mod Pushing

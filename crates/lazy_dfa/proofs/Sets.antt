@@ -80,7 +80,7 @@ pub meets : (a b : ℕ) → a < 2 ^ 64 → b < 2 ^ 64 → bit_and a b ≢ 0 → 
 meets a b la lb some =
     let x = some_place 64 (bit_and a b) (let le = and_le_l a b in omega arith) some in
     let both = and_parts (has a x.0) (has b x.0) (sym (has-and a b x.0) ∙ x.2) in
-    record { place = x.0; low = x.1; in_left = both.0; in_right = both.1 }
+    record { place = x.0; in_left = both.0; in_right = both.1 }
 
 pub meet_some : (a b : ℕ) → Meet a b → bit_and a b ≢ 0
 meet_some a b m z =
@@ -123,3 +123,11 @@ any_below-grows n test old now more before grown here = rw (any_below-more n tes
 
 pub any_below-stays : (n : ℕ) (test : ℕ → Bool) (old now : Bool) → old ≡ any_below n test → now ≡ old → test n ≡ false → now ≡ any_below (n + 1) test
 any_below-stays n test old now before same here = any_below-grows n test old now false before (same ∙ sym (or-false old)) here
+
+below_power : (n : ℕ) → n < 2 ^ n
+below_power zero = omega arith
+below_power (suc n) = omega (arith, below_power n, pow-suc 2 n)
+
+-- a set that isn't 0 has a place
+pub some_in : (n : ℕ) → n ≢ 0 → (p : ℕ) × (has n p ≡ true)
+some_in n some = let x = some_place n n (below_power n) some in (x.0, x.2)

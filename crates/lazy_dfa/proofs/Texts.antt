@@ -29,7 +29,7 @@ shorter u w = record { same = λ k lt. sym (slice_get-front u w k lt) }
 
 -- ---- readings that may pass a `$` at the text's end
 
-empty_more : (e : Expression) → empty false e ≡ true → empty true e ≡ true
+pub empty_more : (e : Expression) → empty false e ≡ true → empty true e ≡ true
 empty_more Nothing h = refl
 empty_more (OneOf set) h = absurd cc
 empty_more End h = refl
@@ -42,7 +42,7 @@ empty_more (Star a) h = refl
 empty_more (Plus a) h = empty_more a h
 empty_more (Optional a) h = refl
 
-last_more : (e : Expression) (n p : ℕ) → last false e n p ≡ true → last true e n p ≡ true
+pub last_more : (e : Expression) (n p : ℕ) → last false e n p ≡ true → last true e n p ≡ true
 last_more Nothing n p h = absurd cc
 last_more (OneOf set) n p h = h
 last_more End n p h = absurd cc

@@ -7,5 +7,8 @@ pub mod Sets
 pub mod Compiled
 pub mod Building
 pub mod Machine
+pub mod Steps
+pub mod Stepping
+pub mod SteppingLaws
 pub mod Words
 pub mod Refusals

@@ -1,5 +1,5 @@
 -- Sets of the places 0 to 63, as the bits of a number.
-use Rattle.std.specs.Prelude.{◌≡◌, ◌<◌, ℕ, zero, suc, ◌+◌, ◌==◌, Bool, true, false, ◌||◌, ◌&&◌, List}
+use Rattle.std.specs.Prelude.{◌≡◌, ℕ, zero, suc, ◌+◌, ◌==◌, Bool, true, false, ◌||◌, ◌&&◌, List}
 use Rattle.std.specs.Int.{bit_at}
 
 -- whether a place is in the set
@@ -14,6 +14,5 @@ any_below (suc n) test = any_below n test || test n
 -- two sets have a place in common
 pub record Meet (left right : ℕ) : Type 0 where
   pub place : ℕ
-  pub low : place < 64
   pub in_left : has left place ≡ true
   pub in_right : has right place ≡ true

@@ -7,6 +7,8 @@ mod error;
 mod parser;
 mod part;
 mod positions;
+mod stepper;
 
 pub use condition::Condition;
 pub use error::ConditionError;
+pub use stepper::Stepper;
