@@ -12,3 +12,4 @@ pub mod Longest
 pub mod Compiling
 pub mod Advancing
 pub mod Pushing
+pub mod Matching

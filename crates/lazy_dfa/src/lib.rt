@@ -4,6 +4,7 @@ mod automaton;
 mod characters;
 mod condition;
 mod error;
+mod laws;
 mod parser;
 mod part;
 mod positions;
@@ -11,4 +12,5 @@ mod stepper;
 
 pub use condition::Condition;
 pub use error::ConditionError;
+pub use laws::{early_answer_is_right, stepper_has_read};
 pub use stepper::Stepper;
