@@ -1,18 +1,18 @@
 -- What the positions that a text reaches tell of it, and one character more.
-use Rattle.std.proofs.Common.{◌≡◌, ◌≢◌, ◌↔◌, ℕ, zero, suc, ◌+◌, ◌≤◌, ◌<◌, Bool, true, false, List, [], ◌∷◌, ◌++◌, length, Option, Some, None, ◌⊎◌, inl, inr, refl, sym, ap, subst, ◌∙◌, arith, length-append, append_assoc, append-nil, slice_index}
-use Rattle.std.specs.Prelude.{◌&&◌, MatchBool}
+use Rattle.std.proofs.Common.{◌≡◌, ℕ, ◌<◌, Bool, true, false, List, [], ◌∷◌, ◌++◌, length, Option, Some, None, inl, inr, refl, sym, ap, subst, ◌∙◌, arith, length-append, append_assoc, slice_index}
+use Rattle.std.specs.Prelude.{◌&&◌}
 use Rattle.std.proofs.lemmas.Bool.{cases_eq, and_parts, and_from, true≢false}
-use Rattle.lazy_dfa.specs.Expression.{Expression, size}
-use Rattle.lazy_dfa.specs.Meaning.{holds, early, after, front}
-use Rattle.lazy_dfa.specs.Positions.{empty, first, last, follow, reads}
+use Rattle.lazy_dfa.specs.Expression.{Expression}
+use Rattle.lazy_dfa.specs.Meaning.{holds, early, after}
+use Rattle.lazy_dfa.specs.Positions.{first, last, follow, reads}
 use Rattle.lazy_dfa.specs.Compiled.{atom_reads}
 use Rattle.lazy_dfa.specs.Machine.{Machine, IsFor}
 use Rattle.lazy_dfa.specs.Sets.{has, any_below, Meet}
 use Rattle.lazy_dfa.specs.Steps.{next_has, IsDecidedAt, HoldsAt}
-use Rattle.lazy_dfa.specs.Stepping.{Progress, Decided, IsReached, HasRead, Took}
+use Rattle.lazy_dfa.specs.Stepping.{Decided, IsReached}
 use Rattle.lazy_dfa.proofs.Sets.{has-none, some_in, any_below-some, any_below-from}
 use Rattle.lazy_dfa.proofs.Bounds.{Reaches_is}
-use Rattle.lazy_dfa.proofs.Texts.{empty_more, last_more, holds_early, holds_by, holds_empty, holds_cases, early_longer, front_shorter, after_first, first_after, after_follow, follow_after, early_by, early_empty, empty_early, early_more, after_within}
+use Rattle.lazy_dfa.proofs.Texts.{empty_more, last_more, holds_by, holds_empty, holds_cases, early_longer, after_first, first_after, after_follow, follow_after, early_by, early_empty, empty_early, early_more, after_within}
 
 -- ---- lists from their end
 
@@ -95,23 +95,29 @@ module _ (m : Machine) (c : Expression) (f : IsFor m c) where
 
   pub step_reached : (u : List ℕ) (r : Option ℕ) (d set : ℕ) → IsReached c u r → ((q : ℕ) → has set q ≡ (next_has m r q && atom_reads m.ranges m.negated q d))
       → IsReached c (u ++ d ∷ []) (Some set)
-  step_reached u None d set none h = rw none (omega arith, λ q.
-      let same : has set q ≡ (first c 0 q && reads c 0 q d) = h q ∙ ap (λ z. z && atom_reads m.ranges m.negated q d) (f.sums.firsts q) ∙ ap (λ z. first c 0 q && z) (f.atoms q d) in
-      ((λ e. after_first c d q (sym same ∙ e)), (λ a. same ∙ first_after c d q a)))
-  step_reached u (Some before) d set x h = (omega (arith, length-append u (d ∷ [])), λ q.
-      let test : ℕ → Bool = λ p. has before p && has (slice_index m.follow p) q in (
-        (λ e.
-          let both = and_parts (any_below m.size test) (atom_reads m.ranges m.negated q d) (sym (h q) ∙ e) in
-          let p = any_below-some m.size test both.0 in
-          let here = and_parts (has before p.0) (has (slice_index m.follow p.0) q) p.2 in
-          after_follow c u d p.0 q ((x.1 p.0).0 here.0) (and_from (follow c 0 p.0 q) (reads c 0 q d) (sym (f.follows p.0 q) ∙ here.1) (sym (f.atoms q d) ∙ both.1))),
-        (λ a.
-          let p = follow_after c u d q x.0 a in
-          let both = and_parts (follow c 0 p.0 q) (reads c 0 q d) p.2 in
-          let here = and_from (has before p.0) (has (slice_index m.follow p.0) q) ((x.1 p.0).1 p.1) (f.follows p.0 q ∙ both.0) in
-          let low : p.0 < m.size = omega (arith, after_within c u p.0 p.1, f.sized) in
-          h q ∙ and_from (any_below m.size test) (atom_reads m.ranges m.negated q d) (any_below-from m.size test p.0 low here) (f.atoms q d ∙ both.1)),
-      ))
+  step_reached u None d set none h = rw none (
+    omega arith,
+    λ q.
+        let same : has set q ≡ (first c 0 q && reads c 0 q d) = h q ∙ ap (λ z. z && atom_reads m.ranges m.negated q d) (f.sums.firsts q) ∙ ap (λ z. first c 0 q && z) (f.atoms q d) in
+        ((λ e. after_first c d q (sym same ∙ e)), (λ a. same ∙ first_after c d q a)),
+  )
+  step_reached u (Some before) d set x h = (
+    omega (arith, length-append u (d ∷ [])),
+    λ q.
+        let test : ℕ → Bool = λ p. has before p && has (slice_index m.follow p) q in (
+          (λ e.
+              let both = and_parts (any_below m.size test) (atom_reads m.ranges m.negated q d) (sym (h q) ∙ e) in
+              let p = any_below-some m.size test both.0 in
+              let here = and_parts (has before p.0) (has (slice_index m.follow p.0) q) p.2 in
+              after_follow c u d p.0 q ((x.1 p.0).0 here.0) (and_from (follow c 0 p.0 q) (reads c 0 q d) (sym (f.follows p.0 q) ∙ here.1) (sym (f.atoms q d) ∙ both.1))),
+          (λ a.
+              let p = follow_after c u d q x.0 a in
+              let both = and_parts (follow c 0 p.0 q) (reads c 0 q d) p.2 in
+              let here = and_from (has before p.0) (has (slice_index m.follow p.0) q) ((x.1 p.0).1 p.1) (f.follows p.0 q ∙ both.0) in
+              let low : p.0 < m.size = omega (arith, after_within c u p.0 p.1, f.sized) in
+              h q ∙ and_from (any_below m.size test) (atom_reads m.ranges m.negated q d) (any_below-from m.size test p.0 low here) (f.atoms q d ∙ both.1)),
+        ),
+  )
 
 -- a text that doesn't decide may grow
 pub open_longer : (c : Expression) (u : List ℕ) (d : ℕ) → (early c u → ⊥) → (v w : List ℕ) → u ++ d ∷ [] ≡ v ++ w → 0 < length w → early c v → ⊥

@@ -1,11 +1,9 @@
 -- What an expression reads lies in the text, and depends on no more than what it reads.
-use Rattle.std.proofs.Common.{◌≡◌, ℕ, ◌+◌, ◌≤◌, ◌<◌, List, length, Option, Some, None, ◌⊎◌, inl, inr, refl, sym, ap, ◌∙◌, arith}
-use Rattle.std.specs.Prelude.{slice_get, ◌==◌}
-use Rattle.std.proofs.lemmas.Bool.{eq-eqb}
+use Rattle.std.proofs.Common.{◌≡◌, ℕ, ◌+◌, ◌≤◌, ◌<◌, List, length, Option, None, inl, inr, sym, ◌∙◌, arith}
+use Rattle.std.specs.Prelude.{slice_get}
 use Rattle.std.proofs.lemmas.Option.{slice_get_within}
 use Rattle.lazy_dfa.specs.Expression.{CharacterSet, Expression, Nothing, OneOf, End, Sequence, Choice, Star, Plus, Optional, size}
 use Rattle.lazy_dfa.specs.Meaning.{Chain, done, step, ReadsAt, Reading, Reaches}
-use Rattle.lazy_dfa.proofs.Ranges.{Within}
 
 -- ---- chains
 

@@ -1,14 +1,13 @@
 -- Building the automaton of a condition, part by part.
-use Rattle.std.proofs.Common.{◌≡◌, ◌≢◌, ℕ, zero, suc, ◌+◌, ◌^◌, ◌≤◌, ◌<◌, Bool, true, false, List, [], ◌∷◌, ◌++◌, map, length, replicate, slice_index, get_or, ◌⊎◌, inl, inr, refl, sym, ap, subst, ◌∙◌, arith}
+use Rattle.std.proofs.Common.{◌≡◌, ℕ, zero, suc, ◌+◌, ◌^◌, ◌≤◌, ◌<◌, Bool, true, false, List, [], ◌∷◌, replicate, slice_index, ◌⊎◌, inl, inr, refl, sym, ap, ◌∙◌, arith}
 use Rattle.std.specs.Prelude.{◌==◌, ◌&&◌, ◌||◌}
 use Rattle.std.specs.List.{list_any}
-use Rattle.std.proofs.lemmas.Bool.{cases_lt, cases_eq, eq-eqb, ne_eqb, false_from_ne_true, or_cases, and_parts}
+use Rattle.std.proofs.lemmas.Bool.{cases_lt, cases_eq, eq-eqb, ne_eqb, false_from_ne_true}
 use Rattle.std.proofs.lemmas.List.Folds.{list_any-append}
 use Rattle.lazy_dfa.specs.declared.automaton.Automaton.{Automaton}
-use Rattle.lazy_dfa.specs.declared.automaton.Range.{Range}
 use Rattle.lazy_dfa.specs.declared.part.Part.{Part}
-use Rattle.lazy_dfa.specs.Expression.{CharacterSet, contains, in_range, negated_if, Expression, Nothing, OneOf, End, Sequence, Choice, Star, Plus, Optional, size}
-use Rattle.lazy_dfa.specs.Positions.{empty, first, last, follow, reads}
+use Rattle.lazy_dfa.specs.Expression.{CharacterSet, contains, in_range, negated_if, Expression, OneOf, Sequence, Choice, Star, Plus, Optional, size}
+use Rattle.lazy_dfa.specs.Positions.{first, last, follow, reads}
 use Rattle.lazy_dfa.specs.Sets.{has}
 use Rattle.lazy_dfa.specs.Compiled.{range_reads, atom_reads, Sums, IsFresh, Adds, Linked, ranges_of, AddsRanges}
 use Rattle.lazy_dfa.proofs.Ranges.{Within, first_within, last_within, follow_within, reads_within}
@@ -72,21 +71,21 @@ module _ (old mid new : Automaton) (a b : Expression) (x : Adds old a mid) (y : 
   both_follows : (p q : ℕ) → old.size ≤ p → has (slice_index new.follow p) q ≡ (follow a old.size p q || follow b (old.size + size a) p q)
   both_follows p q le = elim (places p) [
     | inl lt ↦
-      let none = not_follow b (old.size + size a) p q (below b (old.size + size a) p (omega (arith, x.sized))) in
-      y.kept_follows p q lt ∙ x.follows p q le ∙ sym (ap (λ z. follow a old.size p q || z) none ∙ or-false (follow a old.size p q))
+        let none = not_follow b (old.size + size a) p q (below b (old.size + size a) p (omega (arith, x.sized))) in
+        y.kept_follows p q lt ∙ x.follows p q le ∙ sym (ap (λ z. follow a old.size p q || z) none ∙ or-false (follow a old.size p q))
     | inr ge ↦
-      let none = not_follow a old.size p q (above a old.size p (omega (arith, x.sized))) in
-      y.follows p q ge ∙ ap (λ n. follow b n p q) x.sized ∙ sym (ap (λ z. z || follow b (old.size + size a) p q) none)
+        let none = not_follow a old.size p q (above a old.size p (omega (arith, x.sized))) in
+        y.follows p q ge ∙ ap (λ n. follow b n p q) x.sized ∙ sym (ap (λ z. z || follow b (old.size + size a) p q) none)
   ]
 
   both_atoms : (p c : ℕ) → old.size ≤ p → atom_reads new.ranges.items new.negated p c ≡ (reads a old.size p c || reads b (old.size + size a) p c)
   both_atoms p c le = elim (places p) [
     | inl lt ↦
-      let none = not_reads b (old.size + size a) p c (below b (old.size + size a) p (omega (arith, x.sized))) in
-      y.kept_reads p c lt ∙ x.atoms p c le ∙ sym (ap (λ z. reads a old.size p c || z) none ∙ or-false (reads a old.size p c))
+        let none = not_reads b (old.size + size a) p c (below b (old.size + size a) p (omega (arith, x.sized))) in
+        y.kept_reads p c lt ∙ x.atoms p c le ∙ sym (ap (λ z. reads a old.size p c || z) none ∙ or-false (reads a old.size p c))
     | inr ge ↦
-      let none = not_reads a old.size p c (above a old.size p (omega (arith, x.sized))) in
-      y.atoms p c ge ∙ ap (λ n. reads b n p c) x.sized ∙ sym (ap (λ z. z || reads b (old.size + size a) p c) none)
+        let none = not_reads a old.size p c (above a old.size p (omega (arith, x.sized))) in
+        y.atoms p c ge ∙ ap (λ n. reads b n p c) x.sized ∙ sym (ap (λ z. z || reads b (old.size + size a) p c) none)
   ]
 
   both_kept_follows : (p q : ℕ) → p < old.size → has (slice_index new.follow p) q ≡ has (slice_index old.follow p) q
@@ -114,8 +113,8 @@ module _ (old new : Automaton) (set_last set_first : ℕ) (l : Linked old set_la
   linked_follows p q = elim (cases_lt p old.size) [
     | inl lt ↦ l.joined p q lt
     | inr le ↦
-      let none : has set_last p ≡ false = false_from_ne_true (has set_last p) (λ h. let lt = last_low p h in omega arith) in
-      ap (λ set. has set q) (l.others p le) ∙ sym (ap (λ z. has (slice_index old.follow p) q || (z && has set_first q)) none ∙ or-false (has (slice_index old.follow p) q))
+        let none : has set_last p ≡ false = false_from_ne_true (has set_last p) (λ h. let lt = last_low p h in omega arith) in
+        ap (λ set. has set q) (l.others p le) ∙ sym (ap (λ z. has (slice_index old.follow p) q || (z && has set_first q)) none ∙ or-false (has (slice_index old.follow p) q))
   ]
 
   linked_atoms : (p c : ℕ) → atom_reads new.ranges.items new.negated p c ≡ atom_reads old.ranges.items old.negated p c
@@ -237,7 +236,7 @@ module _ (old ranged new : Automaton) (negated : Bool) (rs : List (ℕ × ℕ)) 
       let self : (old.size == old.size) ≡ true = eq-eqb old.size old.size refl in
       let sign : has new.negated old.size ≡ negated = negation old.size ∙ ap (λ z. has old.negated old.size || (negated && z)) self ∙ ap (λ z. z || (negated && true)) (fresh.negations old.size (omega arith)) ∙ and-true negated in
       let inner : list_any (range_reads old.size c) new.ranges.items ≡ list_any (in_range c) rs =
-          items old.size c ∙ ap (λ z. list_any (range_reads old.size c) old.ranges.items || (z && list_any (in_range c) rs)) self ∙ ap (λ z. z || list_any (in_range c) rs) (fresh.ranges old.size c (omega arith)) in
+      items old.size c ∙ ap (λ z. list_any (range_reads old.size c) old.ranges.items || (z && list_any (in_range c) rs)) self ∙ ap (λ z. z || list_any (in_range c) rs) (fresh.ranges old.size c (omega arith)) in
       ap (λ z. negated_if z (list_any (range_reads old.size c) new.ranges.items)) sign ∙ ap (negated_if negated) inner
 
   follows_same : (p q : ℕ) → has (slice_index new.follow p) q ≡ has (slice_index old.follow p) q

@@ -1,15 +1,13 @@
 -- What is read is the longest `alt` that the text begins with.
-use Rattle.std.proofs.Common.{◌≡◌, ◌≢◌, ℕ, zero, suc, ◌+◌, ◌-◌, ◌*◌, ◌≤◌, ◌<◌, Bool, true, false, List, [], ◌∷◌, ◌++◌, length, take, drop, Option, Some, None, Result, Ok, Err, refl, sym, ap, subst, ◌∙◌, arith, append_assoc, append-nil, length-append, ◌⊎◌, inl, inr}
+use Rattle.std.proofs.Common.{◌≡◌, ℕ, ◌+◌, ◌*◌, ◌≤◌, ◌<◌, Bool, true, false, List, [], ◌∷◌, ◌++◌, length, Some, None, Ok, refl, sym, ap, ◌∙◌, arith, append_assoc, length-append}
 use Rattle.std.specs.Option.{option_map}
-use Rattle.std.specs.Prelude.{◌==◌, nat_le, if◌then◌else◌}
+use Rattle.std.specs.Prelude.{◌==◌, if◌then◌else◌}
 use Rattle.std.proofs.lemmas.Bool.{eqb-true, eq-eqb, false_from_ne_true, true≢false, le-leb}
-use Rattle.std.proofs.lemmas.List.{take-append-drop, length-take, length-drop}
-use Rattle.lazy_dfa.specs.Expression.{CharacterSet, only, digit, any, set_of, Expression, Nothing, OneOf, End, Sequence, Choice, Star, Plus, Optional}
+use Rattle.lazy_dfa.specs.Expression.{CharacterSet, only, Expression, Nothing, OneOf, Sequence, Choice}
 use Rattle.lazy_dfa.specs.Syntax.{is_punctuation, is_literal, is_plain, ClassCharacter, plain, punct, Item, single, range, digits, Items, last, item, Kind, Alt, Seq, Rep, Atom, IsPart, one, choice, nothing, sequence, once, star, plus, optional, end, group, dot, class, others, escaped, literal, alt, IsNoAlt, LongestAlt}
 use Rattle.lazy_dfa.specs.Syntax as syntax
-use Rattle.lazy_dfa.specs.Parsing.{behind, punctuation_at, plain_at, class_character_at, class_character_by, Ranged, range_to, range_from, range_at, digits_at, item_by, item_at, Classed, with_item, items_by, items_from, items_at, Found, found, Reader, escaped_by, literal_at, single_by, single_at, class_of, class_by, closed_by, group_of, atom_by, atom_at, suffixed_by, suffixed, repeated, rep_by, rep_at, joined, seq_by, alt_from, alt_by, Run, Alternatives, Parts, parse, needed, Reads}
+use Rattle.lazy_dfa.specs.Parsing.{behind, punctuation_at, class_character_at, class_character_by, range_to, range_from, range_at, digits_at, item_by, item_at, items_at, Found, found, Reader, escaped_by, single_by, single_at, class_of, class_by, group_of, atom_by, atom_at, suffixed_by, suffixed, repeated, rep_by, rep_at, joined, seq_by, alt_from, alt_by, Alternatives, Parts, parse, needed}
 use Rattle.lazy_dfa.proofs.ReadingSteps.{items_last, items_more, alt_parsed, seq_parsed}
-use Rattle.lazy_dfa.proofs.Repeating.{behind_is, behind_shorter}
 
 -- ---- characters
 
@@ -169,16 +167,16 @@ exact (choice {x = x} {y = y} {a = a} {b = b} p q) = λ t closed k le.
     let room : needed Alternatives (x ++ (124 ∷ (y ++ t))) ≤ k = omega (arith, le, ap length all) in
     ap (parse k Alternatives) all
     ∙ (alt_parsed (x ++ (124 ∷ (y ++ t))) (Ok (found (Choice a b) t)) (λ j enough.
-        let less : needed Alternatives (y ++ t) ≤ j = omega (arith, enough, longer x (124 ∷ (y ++ t))) in
-        ap (alt_by (parse j Alternatives)) (exact p (124 ∷ (y ++ t)) (stops_bar (y ++ t)) j enough) ∙ ap (joined Choice a) (exact q t closed j less))).parsed k room
+    let less : needed Alternatives (y ++ t) ≤ j = omega (arith, enough, longer x (124 ∷ (y ++ t))) in
+    ap (alt_by (parse j Alternatives)) (exact p (124 ∷ (y ++ t)) (stops_bar (y ++ t)) j enough) ∙ ap (joined Choice a) (exact q t closed j less))).parsed k room
 exact nothing = λ t stops k le. (seq_parsed t (Ok (found Nothing t)) (λ j room. ap (seq_by (parse j Parts) t) (stops.none (parse j Alternatives)))).parsed k le
 exact (sequence {x = x} {y = y} {a = a} {b = b} p q) = λ t stops k le.
     let all : (x ++ y) ++ t ≡ x ++ (y ++ t) = append_assoc x y t in
     let room : needed Parts (x ++ (y ++ t)) ≤ k = omega (arith, le, ap length all) in
     ap (parse k Parts) all
     ∙ (seq_parsed (x ++ (y ++ t)) (Ok (found (Sequence a b) t)) (λ j enough.
-        let less : needed Parts (y ++ t) ≤ j = omega (arith, enough, longer x (y ++ t), rep_some p) in
-        ap (seq_by (parse j Parts) (x ++ (y ++ t))) (exact p (y ++ t) (seq_suffix q t stops.suffix) j enough) ∙ ap (joined Sequence a) (exact q t stops j less))).parsed k room
+    let less : needed Parts (y ++ t) ≤ j = omega (arith, enough, longer x (y ++ t), rep_some p) in
+    ap (seq_by (parse j Parts) (x ++ (y ++ t))) (exact p (y ++ t) (seq_suffix q t stops.suffix) j enough) ∙ ap (joined Sequence a) (exact q t stops j less))).parsed k room
 exact (once {x = x} {e = e} p) = λ t fails k le.
     rep_of_atom (parse k Alternatives) (x ++ t) (found e t) (atom_leads t p) (exact p t k le) ∙ ap (λ f. Ok (Some f)) (suffixed_none e t fails)
 exact (star {x = x} {e = e} p) = λ t fails k le.

@@ -1,5 +1,5 @@
 -- A link, place by place.
-use Rattle.std.proofs.Common.{◌≡◌, ℕ, ◌+◌, ◌≤◌, ◌<◌, Bool, true, false, List, length, slice_index, slice_set, ◌⊎◌, inl, inr, refl, sym, ap, ◌∙◌, arith}
+use Rattle.std.proofs.Common.{◌≡◌, ℕ, ◌+◌, ◌≤◌, ◌<◌, Bool, true, false, length, slice_index, slice_set, inl, inr, refl, sym, ap, ◌∙◌, arith}
 use Rattle.std.specs.Prelude.{◌&&◌, ◌||◌}
 use Rattle.std.proofs.lemmas.Bool.{cases_eq, cases_lt}
 use Rattle.std.proofs.Common.{get_or-set_same, get_or-set_other}
@@ -31,8 +31,8 @@ module _ (n : ℕ) (old : Automaton) (last first : ℕ) (now : Automaton) (h : L
     joined = λ p q lt. elim (cases_lt p n) [
       | inl below ↦ h.joined p q below
       | inr le ↦
-        let here : p ≡ n = omega arith in
-        ap (λ set. has set q) (h.others p le) ∙ sym (ap (λ z. has (slice_index old.follow p) q || (z && has first q)) (ap (has last) here ∙ out) ∙ or-false (has (slice_index old.follow p) q))
+          let here : p ≡ n = omega arith in
+          ap (λ set. has set q) (h.others p le) ∙ sym (ap (λ z. has (slice_index old.follow p) q || (z && has first q)) (ap (has last) here ∙ out) ∙ or-false (has (slice_index old.follow p) q))
     ];
     others = λ p le. h.others p (omega arith);
   }
@@ -48,7 +48,7 @@ module _ (n : ℕ) (old : Automaton) (last first : ℕ) (now : Automaton) (h : L
     long = ap length written ∙ Rattle.std.proofs.Math.ListN.length-set now.follow n set ∙ h.long;
     joined = λ p q lt. elim (cases_eq p n) [
       | inl same ↦ rw same (ap (λ f. has (slice_index f n) q) written ∙ ap (λ z. has z q) (here set) ∙ united q
-        ∙ ap (λ z. has z q || has first q) (h.others n (omega arith)) ∙ sym (ap (λ z. has (slice_index old.follow n) q || (z && has first q)) in_last))
+          ∙ ap (λ z. has z q || has first q) (h.others n (omega arith)) ∙ sym (ap (λ z. has (slice_index old.follow n) q || (z && has first q)) in_last))
       | inr other ↦ ap (λ f. has (slice_index f p) q) written ∙ ap (λ z. has z q) (there p set other) ∙ h.joined p q (omega arith)
     ];
     others = λ p le. ap (λ f. slice_index f p) written ∙ there p set (λ e. omega arith) ∙ h.others p (omega arith);

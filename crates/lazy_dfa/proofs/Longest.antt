@@ -1,14 +1,14 @@
 -- What is read is a part, and no longer one begins the text.
-use Rattle.std.proofs.Common.{◌≡◌, ℕ, zero, suc, ◌+◌, ◌-◌, ◌*◌, ◌≤◌, ◌<◌, Bool, true, false, List, [], ◌∷◌, ◌++◌, length, take, drop, Option, Some, None, Result, Ok, Err, refl, sym, ap, subst, ◌∙◌, arith, append_assoc, append-nil, length-append, ◌⊎◌, inl, inr}
+use Rattle.std.proofs.Common.{◌≡◌, ℕ, zero, suc, ◌-◌, ◌*◌, ◌≤◌, Bool, true, false, List, [], ◌∷◌, ◌++◌, length, take, drop, Option, Some, None, Result, Ok, Err, refl, sym, ap, subst, ◌∙◌, arith, append_assoc, append-nil, length-append}
 use Rattle.std.specs.Option.{option_map}
-use Rattle.std.specs.Prelude.{◌==◌, nat_le, if◌then◌else◌}
+use Rattle.std.specs.Prelude.{nat_le, if◌then◌else◌}
 use Rattle.std.proofs.lemmas.Bool.{leb-true}
-use Rattle.std.proofs.lemmas.List.{take-append-drop, length-take, length-drop, nil_from_length}
+use Rattle.std.proofs.lemmas.List.{take-append-drop, length-drop}
 use Rattle.std.proofs.Math.Seq.{take-append_seam}
 use Rattle.lazy_dfa.specs.Expression.{CharacterSet, only, digit, any, set_of, Expression, Nothing, OneOf, End, Sequence, Choice, Star, Plus, Optional}
 use Rattle.lazy_dfa.specs.Syntax.{is_punctuation, is_literal, is_plain, ClassCharacter, plain, punct, Item, single, range, Items, last, item, Kind, Alt, Seq, Rep, Atom, IsPart, one, choice, nothing, sequence, once, star, plus, optional, end, group, dot, class, others, escaped, literal, alt, IsNoAlt, LongestAlt}
 use Rattle.lazy_dfa.specs.Syntax as syntax
-use Rattle.lazy_dfa.specs.Parsing.{behind, punctuation_at, plain_at, class_character_at, class_character_by, Ranged, range_to, range_from, range_at, digits_at, item_by, item_at, Classed, with_item, items_by, items_from, items_at, Found, found, Reader, escaped_by, literal_at, single_by, single_at, class_of, class_by, closed_by, group_of, atom_by, atom_at, suffixed_by, suffixed, repeated, rep_by, rep_at, joined, seq_by, alt_from, alt_by, Run, Alternatives, Parts, parse, needed, Reads}
+use Rattle.lazy_dfa.specs.Parsing.{behind, punctuation_at, plain_at, class_character_at, class_character_by, Ranged, range_to, range_from, range_at, digits_at, item_by, item_at, Classed, with_item, items_by, items_from, items_at, Found, found, Reader, escaped_by, literal_at, single_by, single_at, class_of, class_by, closed_by, group_of, atom_by, atom_at, suffixed_by, suffixed, repeated, rep_by, rep_at, joined, seq_by, alt_from, alt_by, Alternatives, Parts, parse, needed, Reads}
 use Rattle.lazy_dfa.proofs.Repeating.{behind_is, behind_shorter}
 use Rattle.lazy_dfa.proofs.Grammar.{NoSuffix, rep_leads, atom_leads, rep_of_atom, rep_some, exact, at_end, stops_bar}
 

@@ -1,18 +1,15 @@
 -- What pushes do to a stepper.
-use Rattle.std.proofs.Common.{◌≡◌, ◌↔◌, ℕ, zero, suc, ◌+◌, ◌≤◌, ◌<◌, Bool, true, false, List, [], ◌∷◌, ◌++◌, length, take, drop, get_or, Option, Some, None, Result, Ok, Err, ◌⊎◌, inl, inr, refl, sym, ap, subst, ◌∙◌, arith, length-append, append_assoc, append-nil}
+use Rattle.std.proofs.Common.{◌≡◌, ◌↔◌, ℕ, suc, ◌+◌, ◌≤◌, ◌<◌, Bool, true, false, List, [], ◌∷◌, ◌++◌, length, take, drop, get_or, Option, Some, Result, Ok, Err, ◌⊎◌, inl, inr, refl, sym, ap, subst, ◌∙◌, arith, length-append, append_assoc, append-nil}
 use Rattle.std.specs.Prelude.{MatchBool, MatchResult, ◌&&◌}
-use Rattle.std.proofs.lemmas.Bool.{true≢false, cases_lt}
-use Rattle.std.proofs.Math.Seq.{take-append_seam}
-use Rattle.writeable_core.specs.Sink.{TookPrefix}
 use Rattle.lazy_dfa.specs.Expression.{Expression}
 use Rattle.lazy_dfa.specs.Meaning.{holds, early, front}
 use Rattle.lazy_dfa.specs.Compiled.{atom_reads}
 use Rattle.lazy_dfa.specs.Machine.{Machine, IsFor}
 use Rattle.lazy_dfa.specs.Sets.{has}
 use Rattle.lazy_dfa.specs.Steps.{next_has, IsDecidedAt, HoldsAt}
-use Rattle.lazy_dfa.specs.Stepping.{Progress, begun, Decided, IsReached, HasRead, Took, NoneDecides, TookShortest, Decides}
+use Rattle.lazy_dfa.specs.Stepping.{Progress, Decided, HasRead, Took, NoneDecides, TookShortest, Decides}
 use Rattle.lazy_dfa.specs.SteppingLaws.{Took-nothing, Took-both}
-use Rattle.lazy_dfa.proofs.Texts.{holds_early, holds_longer, front_shorter, early_longer}
+use Rattle.lazy_dfa.proofs.Texts.{holds_early, holds_longer}
 use Rattle.lazy_dfa.proofs.Advancing.{decided_at, at_decided, holds_there, there_holds, step_reached, open_longer}
 
 -- ---- tests
@@ -37,12 +34,12 @@ pub decided_answer : (s : Progress) (b : Bool) → (b ≡ true) ↔ HoldsAt s.ma
 decided_answer s b test c u f h d =
     let t = holds_test s b test c u f h in
     ((λ e. settled d (t.0 e)), (λ e. t.1 (holds_early c u e))) where
-  settled : Decided c u → holds c u → early c u
-  settled (inl e) w = e
-  settled (inr no_front) w = elim (holds_longer c u [] (rw append-nil w)) [
-    | inl e ↦ e
-    | inr x ↦ absurd (no_front x)
-  ]
+      settled : Decided c u → holds c u → early c u
+      settled (inl e) w = e
+      settled (inr no_front) w = elim (holds_longer c u [] (rw append-nil w)) [
+        | inl e ↦ e
+        | inr x ↦ absurd (no_front x)
+      ]
 
 -- ---- a refused push
 

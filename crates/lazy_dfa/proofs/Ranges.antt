@@ -1,7 +1,7 @@
 -- The places of an expression's atoms.
-use Rattle.std.proofs.Common.{◌≡◌, ℕ, ◌+◌, ◌≤◌, ◌<◌, Bool, true, false, ◌⊎◌, inl, inr, refl, sym, ap, ◌∙◌, arith}
+use Rattle.std.proofs.Common.{◌≡◌, ℕ, ◌+◌, ◌≤◌, ◌<◌, Bool, true, false, inl, inr, refl, arith}
 use Rattle.std.specs.Prelude.{◌&&◌, ◌||◌, ◌==◌}
-use Rattle.std.proofs.lemmas.Bool.{or_cases, and_parts, eqb-true, false_from_ne_true}
+use Rattle.std.proofs.lemmas.Bool.{or_cases, and_parts, eqb-true}
 use Rattle.lazy_dfa.specs.Expression.{contains, Expression, Nothing, OneOf, End, Sequence, Choice, Star, Plus, Optional, size}
 use Rattle.lazy_dfa.specs.Positions.{empty, first, last, follow, reads}
 
@@ -81,7 +81,7 @@ follow_within (Sequence a b) n p q h =
         | inr y ↦ both_right a b n p q (follow_within b (n + size a) p q y)
       ]
       | inr r ↦ let both = and_parts (last false a n p) (first b (n + size a) q) r in
-        (in_left a b n p (last_within false a n p both.0), in_right a b n q (first_within b (n + size a) q both.1))
+          (in_left a b n p (last_within false a n p both.0), in_right a b n q (first_within b (n + size a) q both.1))
     ] in
     (as_sequence a b n p w.0, as_sequence a b n q w.1)
 follow_within (Choice a b) n p q h = elim (or_cases (follow a n p q) (follow b (n + size a) p q) h) [

@@ -1,11 +1,11 @@
 -- The position automaton reaches what the expression reaches.
-use Rattle.std.proofs.Common.{◌≡◌, ℕ, ◌+◌, ◌≤◌, ◌<◌, Bool, true, false, List, length, Option, Some, None, ◌⊎◌, inl, inr, refl, sym, ap, subst, ◌∙◌, arith}
+use Rattle.std.proofs.Common.{◌≡◌, ℕ, ◌+◌, ◌<◌, Bool, true, false, List, Option, Some, None, ◌⊎◌, inl, inr, refl, sym, ap, subst, ◌∙◌, arith}
 use Rattle.std.specs.Prelude.{slice_get, ◌==◌, ◌&&◌, ◌||◌}
 use Rattle.std.proofs.lemmas.Bool.{eq-eqb, or_cases, and_parts, and_from, or_left, or_right, cases_lt, eqb-true}
-use Rattle.lazy_dfa.specs.Expression.{CharacterSet, contains, Expression, Nothing, OneOf, End, Sequence, Choice, Star, Plus, Optional, size}
-use Rattle.lazy_dfa.specs.Meaning.{Chain, done, step, ReadsAt, Reading, Reaches}
+use Rattle.lazy_dfa.specs.Expression.{contains, Expression, Nothing, OneOf, End, Sequence, Choice, Star, Plus, Optional, size}
+use Rattle.lazy_dfa.specs.Meaning.{Chain, done, step, Reading, Reaches}
 use Rattle.lazy_dfa.specs.Positions.{empty, first, last, follow, reads}
-use Rattle.lazy_dfa.proofs.Ranges.{Within, Both, first_within, last_within, follow_within, reads_within}
+use Rattle.lazy_dfa.proofs.Ranges.{Within, first_within, last_within, follow_within, reads_within}
 use Rattle.lazy_dfa.proofs.Bounds.{chain_le, chain_every, chain_end, Reading_le, Reaches_is}
 
 -- ---- whole readings
@@ -59,12 +59,12 @@ last_reads s end at End n i j p ends h l = absurd h
 last_reads s end at (Sequence a b) n i j p ends (inl h) l = elim (or_cases (last end b (n + size a) p) (empty end b && last end a n p) l) [
   | inl x ↦ let r = Reaches_is s a n i j p h in let w = last_within end b (n + size a) p x in absurd (omega (arith, r.high, w.low))
   | inr y ↦ let both = and_parts (empty end b) (last end a n p) y in
-    (j, last_reads s end at a n i j p ends h both.1, empty_reads s end at b j ends both.0)
+      (j, last_reads s end at a n i j p ends h both.1, empty_reads s end at b j ends both.0)
 ]
 last_reads s end at (Sequence a b) n i j p ends (inr h) l = elim (or_cases (last end b (n + size a) p) (empty end b && last end a n p) l) [
   | inl x ↦ (h.0, Reading_any s at a i h.0 h.1, last_reads s end at b (n + size a) h.0 j p ends h.2 x)
   | inr y ↦ let both = and_parts (empty end b) (last end a n p) y in
-    let r = Reaches_is s b (n + size a) h.0 j p h.2 in let w = last_within end a n p both.1 in absurd (omega (arith, r.low, w.high))
+      let r = Reaches_is s b (n + size a) h.0 j p h.2 in let w = last_within end a n p both.1 in absurd (omega (arith, r.low, w.high))
 ]
 last_reads s end at (Choice a b) n i j p ends (inl h) l = elim (or_cases (last end a n p) (last end b (n + size a) p) l) [
   | inl x ↦ inl (last_reads s end at a n i j p ends h x)
@@ -181,7 +181,7 @@ first_reached s End n i p h r = absurd cc
 first_reached s (Sequence a b) n i p h r = elim (or_cases (first a n p) (empty false a && first b (n + size a) p) h) [
   | inl x ↦ inl (first_reached s a n i p x (by_left s a b n p i (first_within a n p x) (of_choice s a b n p i r)))
   | inr y ↦ let both = and_parts (empty false a) (first b (n + size a) p) y in
-    inr (i, empty_reads s false None a i (λ e. absurd cc) both.0, first_reached s b (n + size a) i p both.1 (by_right s a b n p i (first_within b (n + size a) p both.1) (of_choice s a b n p i r)))
+      inr (i, empty_reads s false None a i (λ e. absurd cc) both.0, first_reached s b (n + size a) i p both.1 (by_right s a b n p i (first_within b (n + size a) p both.1) (of_choice s a b n p i r)))
 ]
 first_reached s (Choice a b) n i p h r = elim (or_cases (first a n p) (first b (n + size a) p) h) [
   | inl x ↦ inl (first_reached s a n i p x (by_left s a b n p i (first_within a n p x) r))
@@ -254,10 +254,10 @@ behind_repeated : (s : List ℕ) (a : Expression) (n i j q k : ℕ) → j ≡ k 
     → (p : ℕ) × Reaches s (Star a) n i k p × ((follow a n p q || (last false a n p && first a n q)) ≡ true)
 behind_repeated s a n i j q k one lt inside h = elim (cases_lt h.0 k) [
   | inl before ↦ let x = inside h.0 before h.2 in
-    (x.place, (h.0, h.1, x.reached), or_left (follow a n x.place q) (last false a n x.place && first a n q) x.next)
+      (x.place, (h.0, h.1, x.reached), or_left (follow a n x.place q) (last false a n x.place && first a n q) x.next)
   | inr le ↦ let less = (Reaches_is s a n h.0 j q h.2).some in
-    let here : h.0 ≡ k = omega arith in
-    behind_chain s a n i k q lt (reached_first s a n h.0 j q (omega arith) h.2) (subst (λ (m : ℕ). Chain (Reading s None a) i m) here h.1)
+      let here : h.0 ≡ k = omega arith in
+      behind_chain s a n i k q lt (reached_first s a n h.0 j q (omega arith) h.2) (subst (λ (m : ℕ). Chain (Reading s None a) i m) here h.1)
 ]
 
 pub reached_behind : (s : List ℕ) (e : Expression) (n i j q k : ℕ) → j ≡ k + 1 → i < k → Reaches s e n i j q → Behind s e n i k q
@@ -268,14 +268,14 @@ reached_behind s (Sequence a b) n i j q k one lt (inl h) = let x = reached_behin
     record { place = x.place; reached = inl x.reached; next = or_left (follow a n x.place q || follow b (n + size a) x.place q) (last false a n x.place && first b (n + size a) q) (or_left (follow a n x.place q) (follow b (n + size a) x.place q) x.next) }
 reached_behind s (Sequence a b) n i j q k one lt (inr h) = elim (cases_lt h.0 k) [
   | inl before ↦ let x = reached_behind s b (n + size a) h.0 j q k one before h.2 in
-    record { place = x.place; reached = inr (h.0, h.1, x.reached); next = or_left (follow a n x.place q || follow b (n + size a) x.place q) (last false a n x.place && first b (n + size a) q) (or_right (follow a n x.place q) (follow b (n + size a) x.place q) x.next) }
+      record { place = x.place; reached = inr (h.0, h.1, x.reached); next = or_left (follow a n x.place q || follow b (n + size a) x.place q) (last false a n x.place && first b (n + size a) q) (or_right (follow a n x.place q) (follow b (n + size a) x.place q) x.next) }
   | inr le ↦ let less = (Reaches_is s b (n + size a) h.0 j q h.2).some in
-    let here : h.0 ≡ k = omega arith in
-    let f = reached_first s b (n + size a) h.0 j q (omega arith) h.2 in
-    elim (read_whole s a n i h.0 h.1) [
-      | inl x ↦ absurd (omega (arith, x.0))
-      | inr x ↦ record { place = x.0; reached = inl (subst (λ (m : ℕ). Reaches s a n i m x.0) here x.1); next = or_right (follow a n x.0 q || follow b (n + size a) x.0 q) (last false a n x.0 && first b (n + size a) q) (and_from (last false a n x.0) (first b (n + size a) q) x.2 f) }
-    ]
+      let here : h.0 ≡ k = omega arith in
+      let f = reached_first s b (n + size a) h.0 j q (omega arith) h.2 in
+      elim (read_whole s a n i h.0 h.1) [
+        | inl x ↦ absurd (omega (arith, x.0))
+        | inr x ↦ record { place = x.0; reached = inl (subst (λ (m : ℕ). Reaches s a n i m x.0) here x.1); next = or_right (follow a n x.0 q || follow b (n + size a) x.0 q) (last false a n x.0 && first b (n + size a) q) (and_from (last false a n x.0) (first b (n + size a) q) x.2 f) }
+      ]
 ]
 reached_behind s (Choice a b) n i j q k one lt (inl h) = let x = reached_behind s a n i j q k one lt h in
     record { place = x.place; reached = inl x.reached; next = or_left (follow a n x.place q) (follow b (n + size a) x.place q) x.next }
@@ -294,8 +294,8 @@ repeated_follow : (s : List ℕ) (a : Expression) (n i k p q : ℕ) → ((m : �
 repeated_follow s a n i k p q inside h f r = elim (or_cases (follow a n p q) (last false a n p && first a n q) f) [
   | inl x ↦ (h.0, h.1, inside h.0 h.2 x)
   | inr y ↦ let both = and_parts (last false a n p) (first a n q) y in
-    let part = last_reads s false None a n h.0 k p (λ e. absurd cc) h.2 both.0 in
-    (k, chain_end i h.0 k h.1 part, first_reached s a n k q both.1 r)
+      let part = last_reads s false None a n h.0 k p (λ e. absurd cc) h.2 both.0 in
+      (k, chain_end i h.0 k h.1 part, first_reached s a n k q both.1 r)
 ]
 
 pub follow_reached : (s : List ℕ) (e : Expression) (n i k p q : ℕ) → Reaches s e n i k p → follow e n p q ≡ true → ReadBy s e n q k → Reaches s e n i (k + 1) q
@@ -310,7 +310,7 @@ follow_reached s (Sequence a b) n i k p q (inl h) f r =
         | inr y ↦ let w = (follow_within b (n + size a) p q y).0 in absurd (omega (arith, at.high, w.low))
       ]
       | inr y ↦ let both = and_parts (last false a n p) (first b (n + size a) q) y in
-        inr (k, last_reads s false None a n i k p (λ e. absurd cc) h both.0, first_reached s b (n + size a) k q both.1 (by_right s a b n q k (first_within b (n + size a) q both.1) (of_choice s a b n q k r)))
+          inr (k, last_reads s false None a n i k p (λ e. absurd cc) h both.0, first_reached s b (n + size a) k q both.1 (by_right s a b n q k (first_within b (n + size a) q both.1) (of_choice s a b n q k r)))
     ]
 follow_reached s (Sequence a b) n i k p q (inr h) f r =
     let at = Reaches_is s b (n + size a) h.0 k p h.2 in
@@ -320,7 +320,7 @@ follow_reached s (Sequence a b) n i k p q (inr h) f r =
         | inr y ↦ inr (h.0, h.1, follow_reached s b (n + size a) h.0 k p q h.2 y (by_right s a b n q k (follow_within b (n + size a) p q y).1 (of_choice s a b n q k r)))
       ]
       | inr y ↦ let both = and_parts (last false a n p) (first b (n + size a) q) y in
-        let w = last_within false a n p both.0 in absurd (omega (arith, at.low, w.high))
+          let w = last_within false a n p both.0 in absurd (omega (arith, at.low, w.high))
     ]
 follow_reached s (Choice a b) n i k p q (inl h) f r =
     let at = Reaches_is s a n i k p h in

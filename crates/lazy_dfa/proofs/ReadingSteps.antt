@@ -1,9 +1,9 @@
 -- Steps of reading a condition.
-use Rattle.std.proofs.Common.{◌≡◌, ℕ, zero, suc, ◌+◌, ◌*◌, ◌^◌, ◌≤◌, ◌<◌, Bool, true, false, List, [], ◌∷◌, ◌++◌, map, length, Option, Some, None, Result, Ok, Err, refl, sym, ap, subst, ◌∙◌, arith, append_assoc}
+use Rattle.std.proofs.Common.{◌≡◌, ℕ, zero, suc, ◌+◌, ◌*◌, ◌^◌, ◌≤◌, ◌<◌, Bool, true, false, List, [], ◌∷◌, ◌++◌, length, Option, Some, None, Result, Ok, Err, refl, sym, ap, subst, ◌∙◌, arith, append_assoc}
 use Rattle.std.specs.Borrow.{Bor}
 use Rattle.std.specs.declared.alloc.AllocError.{AllocError}
 use Rattle.std.specs.Option.{option_map}
-use Rattle.std.specs.Prelude.{◌==◌, nat_le, if◌then◌else◌}
+use Rattle.std.specs.Prelude.{nat_le, if◌then◌else◌}
 use Rattle.lazy_dfa.specs.declared.automaton.Automaton.{Automaton}
 use Rattle.lazy_dfa.specs.declared.part.Part.{Part}
 use Rattle.lazy_dfa.specs.declared.parser.Parsed.{Parsed}
@@ -11,11 +11,11 @@ use Rattle.lazy_dfa.specs.declared.parser.Stop.{Stop}
 use Rattle.lazy_dfa.specs.declared.parser.Stop.TheVariants.{NoMemory, Left}
 use Rattle.lazy_dfa.specs.Expression.{CharacterSet, set_of, Expression, Nothing, OneOf, End, Sequence, Choice, size}
 use Rattle.lazy_dfa.specs.Compiled.{Adds, AddsRanges, Linked, Sums, IsFresh, ranges_of}
-use Rattle.lazy_dfa.specs.Building.{Builds, ReadsRun, ReadsPart, ReadsOne, ReadsItems, ReadsClass, Repeats}
+use Rattle.lazy_dfa.specs.Building.{ReadsRun, ReadsPart, ReadsOne, ReadsItems, ReadsClass, Repeats}
 use Rattle.lazy_dfa.specs.Syntax.{is_punctuation, is_plain, is_literal}
-use Rattle.lazy_dfa.specs.Parsing.{behind, punctuation_at, plain_at, class_character_at, class_character_by, range_to, range_from, range_at, digits_at, item_by, item_at, Ranged, Classed, with_item, items_by, items_from, items_at, Found, found, Reader, single_at, single_by, escaped_by, literal_at, class_of, class_by, closed_by, group_of, atom_by, atom_at, suffixed, repeated, rep_by, rep_at, joined, seq_by, alt_from, alt_by, Run, Alternatives, Parts, parse, needed, Reads}
+use Rattle.lazy_dfa.specs.Parsing.{behind, punctuation_at, plain_at, class_character_at, class_character_by, range_to, range_from, range_at, digits_at, item_by, item_at, Ranged, Classed, with_item, items_by, items_from, items_at, Found, found, single_at, single_by, escaped_by, literal_at, class_of, class_by, atom_by, atom_at, repeated, rep_by, rep_at, joined, seq_by, alt_from, alt_by, Alternatives, Parts, parse, needed, Reads}
 use Rattle.lazy_dfa.proofs.Building.{adds_choice, adds_sequence, adds_none}
-use Rattle.lazy_dfa.proofs.Repeating.{behind_is, behind_shorter}
+use Rattle.lazy_dfa.proofs.Repeating.{behind_shorter}
 
 some_is : {X : Type 0} (x y : X) → Some x ≡ Some y → x ≡ y
 some_is x y e = cc
@@ -259,36 +259,36 @@ single_reads t old mid new negated r part rest no_group no_class some fresh rang
       },
       short,
     ) where
-  cut : (b : Bool) (s : CharacterSet) (c : ℕ) (t : List ℕ) (x : CharacterSet × List ℕ) → Some x ≡ (if b then Some (s, t) else None) → length x.1 < length (c ∷ t)
-  cut true s c t x h = let same : x ≡ (s, t) = cc in let e : x.1 ≡ t = ap (λ (y : CharacterSet × List ℕ). y.1) same in omega (arith, ap length e)
-  cut false s c t x h = absurd cc
+      cut : (b : Bool) (s : CharacterSet) (c : ℕ) (t : List ℕ) (x : CharacterSet × List ℕ) → Some x ≡ (if b then Some (s, t) else None) → length x.1 < length (c ∷ t)
+      cut true s c t x h = let same : x ≡ (s, t) = cc in let e : x.1 ≡ t = ap (λ (y : CharacterSet × List ℕ). y.1) same in omega (arith, ap length e)
+      cut false s c t x h = absurd cc
 
-  literal_shorter : (t : List ℕ) (x : CharacterSet × List ℕ) → Some x ≡ literal_at t → length x.1 < length t
-  literal_shorter [] x h = absurd cc
-  literal_shorter (c ∷ t) x h = cut (is_literal c) (set_of false ((c, c) ∷ [])) c t x h
+      literal_shorter : (t : List ℕ) (x : CharacterSet × List ℕ) → Some x ≡ literal_at t → length x.1 < length t
+      literal_shorter [] x h = absurd cc
+      literal_shorter (c ∷ t) x h = cut (is_literal c) (set_of false ((c, c) ∷ [])) c t x h
 
-  escaped_shorter : (u : List ℕ) (o : Option (List ℕ)) (x : CharacterSet × List ℕ) → behind 100 u ≡ o → Some x ≡ escaped_by u o → length x.1 < length u
-  escaped_shorter u (Some v) x e h =
-      let same : x ≡ (set_of false ((48, 57) ∷ []), v) = some_is x (set_of false ((48, 57) ∷ []), v) h in
-      let rest : x.1 ≡ v = ap (λ (y : CharacterSet × List ℕ). y.1) same in
-      let short = behind_shorter 100 u v (sym e) in omega (arith, ap length rest)
-  escaped_shorter u None x e h = by (punctuation_at u) refl h where
-    by : (o : Option (ℕ × List ℕ)) → punctuation_at u ≡ o → Some x ≡ option_map (λ y. (set_of false ((y.0, y.0) ∷ []), y.1)) o → length x.1 < length u
-    by None e h = absurd cc
-    by (Some y) e h =
-        let same : x ≡ (set_of false ((y.0, y.0) ∷ []), y.1) = some_is x (set_of false ((y.0, y.0) ∷ []), y.1) h in
-        let rest : x.1 ≡ y.1 = ap (λ (z : CharacterSet × List ℕ). z.1) same in
-        let short = punctuation_shorter u y (sym e) in omega (arith, ap length rest)
+      escaped_shorter : (u : List ℕ) (o : Option (List ℕ)) (x : CharacterSet × List ℕ) → behind 100 u ≡ o → Some x ≡ escaped_by u o → length x.1 < length u
+      escaped_shorter u (Some v) x e h =
+          let same : x ≡ (set_of false ((48, 57) ∷ []), v) = some_is x (set_of false ((48, 57) ∷ []), v) h in
+          let rest : x.1 ≡ v = ap (λ (y : CharacterSet × List ℕ). y.1) same in
+          let short = behind_shorter 100 u v (sym e) in omega (arith, ap length rest)
+      escaped_shorter u None x e h = by (punctuation_at u) refl h where
+        by : (o : Option (ℕ × List ℕ)) → punctuation_at u ≡ o → Some x ≡ option_map (λ y. (set_of false ((y.0, y.0) ∷ []), y.1)) o → length x.1 < length u
+        by None e h = absurd cc
+        by (Some y) e h =
+            let same : x ≡ (set_of false ((y.0, y.0) ∷ []), y.1) = some_is x (set_of false ((y.0, y.0) ∷ []), y.1) h in
+            let rest : x.1 ≡ y.1 = ap (λ (z : CharacterSet × List ℕ). z.1) same in
+            let short = punctuation_shorter u y (sym e) in omega (arith, ap length rest)
 
-  single_shorter : (t : List ℕ) (x : CharacterSet × List ℕ) → Some x ≡ single_at t → length x.1 < length t
-  single_shorter t x h = by_dot (behind 46 t) (behind 92 t) refl refl h where
-    by_dot : (o p : Option (List ℕ)) → behind 46 t ≡ o → behind 92 t ≡ p → Some x ≡ single_by t o p → length x.1 < length t
-    by_dot (Some u) p e f h =
-        let same : x ≡ (set_of true ((10, 10) ∷ []), u) = some_is x (set_of true ((10, 10) ∷ []), u) h in
-        let rest : x.1 ≡ u = ap (λ (y : CharacterSet × List ℕ). y.1) same in
-        let short = behind_shorter 46 t u (sym e) in omega (arith, ap length rest)
-    by_dot None (Some u) e f h = let short = behind_shorter 92 t u (sym f) in let less = escaped_shorter u (behind 100 u) x refl h in omega arith
-    by_dot None None e f h = literal_shorter t x h
+      single_shorter : (t : List ℕ) (x : CharacterSet × List ℕ) → Some x ≡ single_at t → length x.1 < length t
+      single_shorter t x h = by_dot (behind 46 t) (behind 92 t) refl refl h where
+        by_dot : (o p : Option (List ℕ)) → behind 46 t ≡ o → behind 92 t ≡ p → Some x ≡ single_by t o p → length x.1 < length t
+        by_dot (Some u) p e f h =
+            let same : x ≡ (set_of true ((10, 10) ∷ []), u) = some_is x (set_of true ((10, 10) ∷ []), u) h in
+            let rest : x.1 ≡ u = ap (λ (y : CharacterSet × List ℕ). y.1) same in
+            let short = behind_shorter 46 t u (sym e) in omega (arith, ap length rest)
+        by_dot None (Some u) e f h = let short = behind_shorter 92 t u (sym f) in let less = escaped_shorter u (behind 100 u) x refl h in omega arith
+        by_dot None None e f h = literal_shorter t x h
 
 pub no_atom : (t : List ℕ) (old : Automaton) → None ≡ behind 40 t → None ≡ behind 91 t → None ≡ single_at t → ReadsOne atom_at t old old (Ok None)
 no_atom t old no_group no_class none = (

@@ -1,5 +1,5 @@
 -- An atom with what follows it.
-use Rattle.std.proofs.Common.{◌≡◌, ℕ, ◌+◌, ◌≤◌, ◌<◌, Bool, true, false, List, [], ◌∷◌, length, Option, Some, None, refl, sym, ap, ◌∙◌, arith}
+use Rattle.std.proofs.Common.{◌≡◌, ℕ, ◌+◌, ◌≤◌, Bool, true, false, List, [], ◌∷◌, length, Some, None, refl, sym, ap, ◌∙◌, arith}
 use Rattle.std.specs.Borrow.{Bor}
 use Rattle.std.specs.Prelude.{◌==◌, if◌then◌else◌}
 use Rattle.std.proofs.lemmas.Bool.{eqb-true}
@@ -7,9 +7,9 @@ use Rattle.lazy_dfa.specs.declared.automaton.Automaton.{Automaton}
 use Rattle.lazy_dfa.specs.declared.part.Part.{Part}
 use Rattle.lazy_dfa.specs.declared.parser.Parsed.{Parsed}
 use Rattle.lazy_dfa.specs.Expression.{Expression, Star, Plus, Optional}
-use Rattle.lazy_dfa.specs.Compiled.{Adds, Linked, Sums}
+use Rattle.lazy_dfa.specs.Compiled.{Linked, Sums}
 use Rattle.lazy_dfa.specs.Building.{Builds}
-use Rattle.lazy_dfa.specs.Parsing.{behind, Found, found, suffixed, suffixed_by}
+use Rattle.lazy_dfa.specs.Parsing.{behind, found, suffixed, suffixed_by}
 use Rattle.lazy_dfa.proofs.Building.{adds_star, adds_plus, adds_optional, sums_plus}
 
 -- what stands behind a character
@@ -50,7 +50,7 @@ module _ (e : Expression) (before : Automaton) (text : List ℕ) (atom : Parsed)
       let shorter = behind_shorter 43 atom.rest.now rest.now here in (
         Plus e,
         ap (λ o. suffixed_by (found e atom.rest.now) o (behind 43 atom.rest.now) (behind 63 atom.rest.now)) (sym no_star)
-        ∙ ap (λ o. suffixed_by (found e atom.rest.now) None o (behind 63 atom.rest.now)) (sym here),
+            ∙ ap (λ o. suffixed_by (found e atom.rest.now) None o (behind 63 atom.rest.now)) (sym here),
         record {
           sums = rw same (sums_plus atom.part e before.size b.sums);
           adds = adds_plus before old new e atom.part b.adds b.sums l;
@@ -66,8 +66,8 @@ module _ (e : Expression) (before : Automaton) (text : List ℕ) (atom : Parsed)
       let shorter = behind_shorter 63 atom.rest.now rest.now here in (
         Optional e,
         ap (λ o. suffixed_by (found e atom.rest.now) o (behind 43 atom.rest.now) (behind 63 atom.rest.now)) (sym no_star)
-        ∙ ap (λ o. suffixed_by (found e atom.rest.now) None o (behind 63 atom.rest.now)) (sym no_plus)
-        ∙ ap (λ o. suffixed_by (found e atom.rest.now) None None o) (sym here),
+            ∙ ap (λ o. suffixed_by (found e atom.rest.now) None o (behind 63 atom.rest.now)) (sym no_plus)
+            ∙ ap (λ o. suffixed_by (found e atom.rest.now) None None o) (sym here),
         record {
           sums = s e before.size b.sums;
           adds = adds_optional before old e b.adds;

@@ -1,11 +1,11 @@
 -- Sets of places as bits.
-use Rattle.std.proofs.Common.{◌≡◌, ◌≢◌, ℕ, zero, suc, ◌+◌, ◌*◌, ◌/◌, ◌%◌, ◌^◌, ◌≤◌, ◌<◌, min, max, Bool, true, false, ◌⊎◌, inl, inr, refl, sym, ap, subst, ◌∙◌, arith, bit_and, bit_or}
-use Rattle.std.specs.Prelude.{◌==◌, ◌&&◌, ◌||◌, not, ◌↔◌}
+use Rattle.std.proofs.Common.{◌≡◌, ◌≢◌, ℕ, zero, suc, ◌+◌, ◌/◌, ◌%◌, ◌^◌, ◌<◌, min, max, Bool, true, false, ◌⊎◌, inl, inr, refl, sym, ap, ◌∙◌, arith, bit_and, bit_or}
+use Rattle.std.specs.Prelude.{◌==◌, ◌&&◌, ◌||◌}
 use Rattle.std.specs.Int.{bit_at}
 use Rattle.std.specs.Int.Bits.{bit_xor}
-use Rattle.std.proofs.lemmas.Bool.{cases_eq, cases_lt, cases_Bool, eq-eqb, ne_eqb, eqb-true, eqb-false, and_parts, and_from, or_cases, or_left, or_right, true≢false}
+use Rattle.std.proofs.lemmas.Bool.{cases_eq, cases_lt, eq-eqb, ne_eqb, eqb-true, and_parts, and_from, or_cases, or_left, or_right, true≢false}
 use Rattle.std.proofs.lemmas.Nat.Bits.{bit_at-zero, bit_at-lt, bit_at-pow_same, bit_at-pow_other, bit_at_or, bit_at_and, bit_at_xor, bit_at-suc, bit_at_lowest, bit_at_above}
-use Rattle.std.proofs.lemmas.Nat.{one_shl, and_le_l}
+use Rattle.std.proofs.lemmas.Nat.{and_le_l}
 use Rattle.std.proofs.Math.Numerals.{add-one}
 use Rattle.std.proofs.Math.Nat.{pow-suc}
 use Rattle.lazy_dfa.specs.Expression.{negated_if}
@@ -63,11 +63,11 @@ some_place zero n lt some = absurd (some (omega arith))
 some_place (suc k) n lt some = elim (bit_cases n 0) [
   | inr one ↦ (0, omega arith, eq-eqb (bit_at n 0) 1 one)
   | inl even ↦
-    let low : n % 2 ≡ 0 = sym (bit_at_lowest n) ∙ even in
-    let half : n / 2 < 2 ^ k = omega (arith, pow-suc 2 k) in
-    let more : n / 2 ≢ 0 = λ z. some (omega arith) in
-    let x = some_place k (n / 2) half more in
-    (suc x.0, omega (arith, x.1), same_tests (bit_at n (suc x.0)) (bit_at (n / 2) x.0) (bit_at-suc n x.0) ∙ x.2)
+      let low : n % 2 ≡ 0 = sym (bit_at_lowest n) ∙ even in
+      let half : n / 2 < 2 ^ k = omega (arith, pow-suc 2 k) in
+      let more : n / 2 ≢ 0 = λ z. some (omega arith) in
+      let x = some_place k (n / 2) half more in
+      (suc x.0, omega (arith, x.1), same_tests (bit_at n (suc x.0)) (bit_at (n / 2) x.0) (bit_at-suc n x.0) ∙ x.2)
 ]
 
 pub has_below : (n p : ℕ) → n < 2 ^ 64 → has n p ≡ true → p < 64

@@ -1,14 +1,13 @@
 -- A condition on a whole text, and on a text with one character more.
-use Rattle.std.proofs.Common.{◌≡◌, ◌↔◌, ℕ, zero, suc, ◌+◌, ◌-◌, ◌≤◌, ◌<◌, Bool, true, false, List, [], ◌∷◌, ◌++◌, length, Option, Some, None, ◌⊎◌, inl, inr, refl, sym, ap, subst, ◌∙◌, arith, length-append, append-nil}
-use Rattle.std.specs.Prelude.{slice_get, ◌&&◌, ◌||◌}
-use Rattle.std.proofs.lemmas.Bool.{cases_lt, cases_eq, or_cases, and_parts, and_from, or_left, or_right}
+use Rattle.std.proofs.Common.{◌≡◌, ℕ, zero, suc, ◌+◌, ◌-◌, ◌≤◌, ◌<◌, true, false, List, [], ◌∷◌, ◌++◌, length, Some, None, ◌⊎◌, inl, inr, refl, sym, subst, ◌∙◌, arith, length-append}
+use Rattle.std.specs.Prelude.{slice_get, ◌&&◌}
+use Rattle.std.proofs.lemmas.Bool.{cases_lt, or_cases, and_parts, and_from, or_left, or_right}
 use Rattle.std.proofs.lemmas.List.{nil_from_length}
-use Rattle.lazy_dfa.specs.Expression.{CharacterSet, contains, Expression, Nothing, OneOf, End, Sequence, Choice, Star, Plus, Optional, size}
-use Rattle.lazy_dfa.specs.Meaning.{Chain, done, step, ReadsAt, Reading, match, holds, early, Reaches, after, front}
+use Rattle.lazy_dfa.specs.Expression.{Expression, Nothing, OneOf, End, Sequence, Choice, Star, Plus, Optional, size}
+use Rattle.lazy_dfa.specs.Meaning.{Chain, done, step, Reading, holds, early, Reaches, after, front}
 use Rattle.lazy_dfa.specs.Positions.{empty, first, last, follow, reads}
-use Rattle.lazy_dfa.proofs.Ranges.{Within}
-use Rattle.lazy_dfa.proofs.Bounds.{chain_le, chain_every, Reading_le, Reaches_is, Agree, Reading_agree, Reaches_agree}
-use Rattle.lazy_dfa.proofs.Reaching.{Reading_any, empty_reads, last_reads, Whole, read_whole, ReadBy, first_reached, reached_first, reached_read, Behind, reached_behind, follow_reached}
+use Rattle.lazy_dfa.proofs.Bounds.{Reaches_is, Agree, Reading_agree, Reaches_agree}
+use Rattle.lazy_dfa.proofs.Reaching.{Reading_any, empty_reads, last_reads, Whole, read_whole, first_reached, reached_first, reached_read, reached_behind, follow_reached}
 
 -- ---- a text that another begins with
 
@@ -49,7 +48,7 @@ last_more End n p h = absurd cc
 last_more (Sequence a b) n p h = elim (or_cases (last false b (n + size a) p) (empty false b && last false a n p) h) [
   | inl x ↦ or_left (last true b (n + size a) p) (empty true b && last true a n p) (last_more b (n + size a) p x)
   | inr y ↦ let both = and_parts (empty false b) (last false a n p) y in
-    or_right (last true b (n + size a) p) (empty true b && last true a n p) (and_from (empty true b) (last true a n p) (empty_more b both.0) (last_more a n p both.1))
+      or_right (last true b (n + size a) p) (empty true b && last true a n p) (and_from (empty true b) (last true a n p) (empty_more b both.0) (last_more a n p both.1))
 ]
 last_more (Choice a b) n p h = elim (or_cases (last false a n p) (last false b (n + size a) p) h) [
   | inl x ↦ or_left (last true a n p) (last true b (n + size a) p) (last_more a n p x)
@@ -122,11 +121,11 @@ read_split s (Sequence a b) n i j h = elim (read_split s a n i h.0 h.1) [
     ]
   ]
   | inr x ↦
-    let rest = nothing_left s b (n + size a) j (subst (λ (m : ℕ). Split s b (n + size a) m j) x.0 (read_split s b (n + size a) h.0 j h.2)) in
-    elim x.1 [
-      | inl w ↦ inr (rest.0, inl (w.0, and_from (empty true a) (empty true b) w.1 rest.1))
-      | inr w ↦ inr (rest.0, inr (w.0, inl w.1, or_right (last true b (n + size a) w.0) (empty true b && last true a n w.0) (and_from (empty true b) (last true a n w.0) rest.1 w.2)))
-    ]
+      let rest = nothing_left s b (n + size a) j (subst (λ (m : ℕ). Split s b (n + size a) m j) x.0 (read_split s b (n + size a) h.0 j h.2)) in
+      elim x.1 [
+        | inl w ↦ inr (rest.0, inl (w.0, and_from (empty true a) (empty true b) w.1 rest.1))
+        | inr w ↦ inr (rest.0, inr (w.0, inl w.1, or_right (last true b (n + size a) w.0) (empty true b && last true a n w.0) (and_from (empty true b) (last true a n w.0) rest.1 w.2)))
+      ]
 ]
 read_split s (Choice a b) n i j (inl h) = elim (read_split s a n i j h) [
   | inl x ↦ inl (inl x)
@@ -161,14 +160,14 @@ read_split s (Plus a) n i j h = elim (read_split s a n i h.0 h.1) [
     ]
   ]
   | inr x ↦
-    let rest : j ≡ length s = elim (chain_split s a n (λ i j r. read_split s a n i j r) h.0 j h.2) [
-      | inl y ↦ chain_none h.0 j x.0 y
-      | inr y ↦ y.0
-    ] in
-    elim x.1 [
-      | inl w ↦ inr (rest, inl w)
-      | inr w ↦ inr (rest, inr (w.0, (i, done, w.1), w.2))
-    ]
+      let rest : j ≡ length s = elim (chain_split s a n (λ i j r. read_split s a n i j r) h.0 j h.2) [
+        | inl y ↦ chain_none h.0 j x.0 y
+        | inr y ↦ y.0
+      ] in
+      elim x.1 [
+        | inl w ↦ inr (rest, inl w)
+        | inr w ↦ inr (rest, inr (w.0, (i, done, w.1), w.2))
+      ]
 ] where
   chain_none : (k j : ℕ) → k ≡ length s → Chain (Reading s None a) k j → j ≡ length s
   chain_none k j e done = e
@@ -310,9 +309,9 @@ early_more c u d h = elim (read_whole (u ++ d ∷ []) c 0 0 h.0 h.1) [
   | inr x ↦ elim (cases_lt (length u) h.0) [
     | inr le ↦ inl (h.0, Reading_agree (u ++ d ∷ []) u (length u) (shorter u (d ∷ [])) c 0 h.0 le h.1)
     | inl lt ↦
-      let at = Reaches_is (u ++ d ∷ []) c 0 0 h.0 x.0 x.1 in
-      let here : h.0 ≡ length (u ++ d ∷ []) = omega (arith, at.inside, length-end u d) in
-      inr (x.0, record { reached = subst (λ (m : ℕ). Reaches (u ++ d ∷ []) c 0 0 m x.0) here x.1; ending = x.2 })
+        let at = Reaches_is (u ++ d ∷ []) c 0 0 h.0 x.0 x.1 in
+        let here : h.0 ≡ length (u ++ d ∷ []) = omega (arith, at.inside, length-end u d) in
+        inr (x.0, record { reached = subst (λ (m : ℕ). Reaches (u ++ d ∷ []) c 0 0 m x.0) here x.1; ending = x.2 })
   ]
 ]
 

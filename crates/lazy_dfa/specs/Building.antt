@@ -3,12 +3,11 @@ use Rattle.std.specs.Borrow.{Bor}
 use Rattle.std.specs.declared.alloc.AllocError.{AllocError}
 use Rattle.std.specs.Prelude.{◌≡◌, ℕ, ◌+◌, ◌*◌, ◌^◌, ◌≤◌, ◌<◌, List, length, Bool, Option, Some, None, Result, Ok, Err}
 use Rattle.lazy_dfa.specs.declared.automaton.Automaton.{Automaton}
-use Rattle.lazy_dfa.specs.declared.part.Part.{Part}
 use Rattle.lazy_dfa.specs.declared.parser.Parsed.{Parsed}
 use Rattle.lazy_dfa.specs.declared.parser.Stop.{Stop}
 use Rattle.lazy_dfa.specs.declared.parser.Stop.TheVariants.{NoMemory, Left}
 use Rattle.lazy_dfa.specs.Expression.{Expression, OneOf, set_of}
-use Rattle.lazy_dfa.specs.Compiled.{IsFresh, Adds, AddsRanges, Sums}
+use Rattle.lazy_dfa.specs.Compiled.{Adds, AddsRanges, Sums}
 use Rattle.lazy_dfa.specs.Parsing.{Run, Alternatives, Found, found, Reader, Reads, parse, items_at, suffixed}
 
 -- a part with this expression was added, and the rest of the text is left

@@ -1,5 +1,5 @@
 -- What a contract sees of a condition: the position automaton, without what stands beside it for speed.
-use Rattle.std.specs.Prelude.{◌≡◌, ℕ, List, slice_index, Bool}
+use Rattle.std.specs.Prelude.{◌≡◌, ℕ, List, slice_index}
 use Rattle.lazy_dfa.specs.declared.automaton.Automaton.{Automaton}
 use Rattle.lazy_dfa.specs.declared.automaton.Range.{Range}
 use Rattle.lazy_dfa.specs.declared.part.Part.{Part}

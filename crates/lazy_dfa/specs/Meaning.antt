@@ -1,6 +1,6 @@
 -- What a condition reads of a text. A text is a list of characters, and the characters i to j of it are those from the
 -- place i on, up to the place j.
-use Rattle.std.specs.Prelude.{◌≡◌, ℕ, ◌+◌, Bool, true, List, [], ◌++◌, length, slice_get, Option, Some, None, ◌⊎◌}
+use Rattle.std.specs.Prelude.{◌≡◌, ℕ, ◌+◌, true, List, [], length, slice_get, Option, Some, None, ◌⊎◌}
 use Rattle.lazy_dfa.specs.Expression.{CharacterSet, contains, Expression, Nothing, OneOf, End, Sequence, Choice, Star, Plus, Optional, size}
 
 -- any number of steps, one behind the other

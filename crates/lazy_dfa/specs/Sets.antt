@@ -1,5 +1,5 @@
 -- Sets of the places 0 to 63, as the bits of a number.
-use Rattle.std.specs.Prelude.{◌≡◌, ℕ, zero, suc, ◌+◌, ◌==◌, Bool, true, false, ◌||◌, ◌&&◌, List}
+use Rattle.std.specs.Prelude.{◌≡◌, ℕ, zero, suc, ◌==◌, Bool, true, false, ◌||◌}
 use Rattle.std.specs.Int.{bit_at}
 
 -- whether a place is in the set

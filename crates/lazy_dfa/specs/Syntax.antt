@@ -4,9 +4,9 @@
 --   rep  = atom [ "*" | "+" | "?" ] | "$"
 --   atom = "(" alt ")" | "." | "[" [ "^" ] item { item } "]" | "\d" | "\" punct | literal
 --   item = classchar | classchar "-" classchar | "\d"
-use Rattle.std.specs.Prelude.{◌≡◌, ℕ, ◌+◌, ◌≤◌, Bool, true, false, not, ◌&&◌, ◌||◌, nat_le, ◌==◌, List, [], ◌∷◌, ◌++◌, length, take, codes}
+use Rattle.std.specs.Prelude.{◌≡◌, ℕ, ◌≤◌, Bool, true, false, not, ◌&&◌, ◌||◌, nat_le, ◌==◌, List, [], ◌∷◌, ◌++◌, length, take, codes}
 use Rattle.std.specs.List.{list_any}
-use Rattle.lazy_dfa.specs.Expression.{CharacterSet, only, digit, any, Expression, Nothing, OneOf, End, Sequence, Choice, Star, Plus, Optional}
+use Rattle.lazy_dfa.specs.Expression.{only, digit, any, Expression, Nothing, OneOf, End, Sequence, Choice, Star, Plus, Optional}
 
 -- ASCII punctuation
 abbrev pub is_punctuation : ℕ → Bool

@@ -30,14 +30,16 @@ pub struct Automaton {
 }
 
 impl Automaton {
-    ghost use Rattle.std.specs.Prelude.{◌≡◌, ◌<◌, ◌^◌, ◌==◌, ◌&&◌, ◌||◌, ◌↔◌, ℕ, IsTrue, Bool, slice_index};
+    ghost use Rattle.std.specs.Prelude.{◌≡◌, ◌&&◌, ℕ, slice_index};
     ghost use Rattle.std.specs.List.{list_any};
     ghost use Rattle.lazy_dfa.specs.Sets.{has, any_below};
     ghost use Rattle.lazy_dfa.specs.Compiled.{atom_reads, range_reads};
 
     /// The atoms that can read the next character.
     pub fn behind(&self, positions: Positions) -> Positions
-        ensures { (q : ℕ) → has result q ≡ any_below self.now.size (λ p. has positions p && has (slice_index self.now.follow p) q) }
+        ensures { (q : ℕ) →
+            has result q
+            ≡ any_below self.now.size (λ p. has positions p && has (slice_index self.now.follow p) q) }
     {
         let mut next = 0;
         for place in 0..self.size {
@@ -63,7 +65,9 @@ impl Automaton {
 
     /// Those of the atoms that read the character.
     pub fn reading(&self, next: Positions, c: char) -> Positions
-        ensures { (p : ℕ) → has result p ≡ (has next p && atom_reads self.now.ranges.items self.now.negated p c) }
+        ensures { (p : ℕ) →
+            has result p
+            ≡ (has next p && atom_reads self.now.ranges.items self.now.negated p c) }
     {
         next & (self.inside(c) ^ self.negated)
     }
@@ -92,7 +96,8 @@ impl Automaton {
     /// Adds a range of the atom that comes next.
     pub fn add_range(&mut self, first: char, last: char) -> Result<(), AllocError>
         requires { self.old.size < 64 }
-        ensures { OnOk result (AddsRanges self.old (2 ^ self.old.size) ((first, last) ∷ []) self.new) }
+        ensures { OnOk result
+            (AddsRanges self.old (2 ^ self.old.size) ((first, last) ∷ []) self.new) }
     {
         let atom = only(self.size);
         self.ranges.push(Range { first, last, atom })?;
@@ -103,7 +108,9 @@ impl Automaton {
     pub fn add_atom(&mut self, negated: bool) -> Part
         requires { self.old.size < 64 }
         ensures part { (set : CharacterSet) → Sums result (OneOf set) self.old.size }
-        ensures added { (before : Automaton) (rs : List (ℕ × ℕ)) → IsFresh before → AddsRanges before (2 ^ before.size) rs self.old → Adds before (OneOf (record { negated = negated; ranges = rs })) self.new }
+        ensures added { (before : Automaton) (rs : List (ℕ × ℕ)) →
+            IsFresh before → AddsRanges before (2 ^ before.size) rs self.old →
+            Adds before (OneOf (record { negated = negated; ranges = rs })) self.new }
     {
         let place = self.size;
         self.negated = union_if(negated, self.negated, only(place));

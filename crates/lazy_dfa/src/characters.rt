@@ -3,7 +3,8 @@
 ghost use Rattle.std.specs.Prelude.{◌≡◌, ◌∷◌, []};
 ghost use Rattle.std.specs.Option.{option_map};
 ghost use Rattle.lazy_dfa.specs.Syntax.{is_literal, is_plain, is_punctuation};
-ghost use Rattle.lazy_dfa.specs.Parsing.{behind, class_character_at, item_at, plain_at, punctuation_at, single_at};
+ghost use Rattle.lazy_dfa.specs.Parsing.{behind, class_character_at, item_at};
+ghost use Rattle.lazy_dfa.specs.Parsing.{punctuation_at, single_at};
 ghost use Rattle.lazy_dfa.specs.Expression.{set_of};
 
 /// What stands behind a character, where the text begins with it.
@@ -88,7 +89,8 @@ pub fn item(text: &[char]) -> Option<(char, char, &[char])>
 /// The set of the one character that the text begins with, where that is an atom: whether it is
 /// negated, and its range.
 pub fn single(text: &[char]) -> Option<(bool, char, char, &[char])>
-    ensures { option_map (λ x. (set_of x.0 ((x.1, x.2) ∷ []), x.3.now)) result ≡ single_at text.now }
+    ensures { option_map (λ x. (set_of x.0 ((x.1, x.2) ∷ []), x.3.now)) result
+        ≡ single_at text.now }
 {
     if let Some(rest) = behind(text, '.') {
         return Some((true, '\n', '\n', rest));

@@ -1,6 +1,7 @@
 //! Conditions: reading a pattern, and what holds of a text.
 
-ghost use Rattle.std.specs.Prelude.{◌≡◌, ◌↔◌, ◌≤◌, ◌&&◌, ℕ, length, take, IfErr, IfOk, IsTrue, MatchBool};
+ghost use Rattle.std.specs.Prelude.{◌≡◌, ◌↔◌, ◌≤◌, ◌&&◌, ℕ, length, take};
+ghost use Rattle.std.specs.Prelude.{IfErr, IfOk, IsTrue, MatchBool};
 ghost use Rattle.std.specs.Str.{chars};
 ghost use Rattle.lazy_dfa.specs.Sets.{has};
 
@@ -45,7 +46,8 @@ impl Condition {
 
     /// The condition that a pattern is.
     pub fn new(alloc: Global, pattern: &str) -> Result<Condition, ConditionError>
-        ensures ok { IfOk result (λ c. (e : Expression) × condition (chars pattern.now) e × IsFor c e) }
+        ensures ok { IfOk result
+            (λ c. (e : Expression) × condition (chars pattern.now) e × IsFor c e) }
         ensures err { IfErr result (IsRefused (chars pattern.now)) }
     {
         let mut characters = ['\0'; ROOM];
@@ -59,8 +61,8 @@ impl Condition {
         Condition::compiled(alloc, text)
     }
 
-    /// Whether the condition holds on a text. It takes no memory, and the text is written no further
-    /// than where that is decided.
+    /// Whether the condition holds on a text. It takes no memory, and the text is written no
+    /// further than where that is decided.
     pub fn matches<W: Writeable>(&self, text: &W) -> bool
         ensures { (e : Expression) → IsFor self.now e → IsTrue result ↔ holds e (W.text text.now) }
     {
@@ -78,7 +80,9 @@ impl Condition {
 
     /// The positions that a text reaches with one character more. Before its first it has none.
     pub(crate) fn step(&self, reached: Option<Positions>, c: char) -> Positions
-        ensures { (q : ℕ) → has result q ≡ (next_has self.now reached q && atom_reads self.now.ranges self.now.negated q c) }
+        ensures { (q : ℕ) →
+            has result q
+            ≡ (next_has self.now reached q && atom_reads self.now.ranges self.now.negated q c) }
     {
         let next = match reached {
             None => self.whole.first,
@@ -89,7 +93,8 @@ impl Condition {
 
     /// Whether it is decided by a text that reaches these positions.
     pub(crate) fn is_decided(&self, reached: Option<Positions>) -> bool
-        ensures { MatchBool result (IsDecidedAt self.now reached) (IsDecidedAt self.now reached → ⊥) }
+        ensures { MatchBool result
+            (IsDecidedAt self.now reached) (IsDecidedAt self.now reached → ⊥) }
     {
         match reached {
             None => self.whole.empty,

@@ -116,7 +116,11 @@ impl Automaton {
 
     /// A group, behind its opening parenthesis.
     #[cycle(parser)]
-    fn group<'a>(&mut self, text: &'a [char], inside: &'a [char]) -> Result<Option<Parsed<'a>>, Stop>
+    fn group<'a>(
+        &mut self,
+        text: &'a [char],
+        inside: &'a [char],
+    ) -> Result<Option<Parsed<'a>>, Stop>
         requires fresh { IsFresh self.old }
         requires room { self.old.size + length text.now ≤ 64 }
         requires opened { behind 40 text.now ≡ Some inside.now }
@@ -149,7 +153,12 @@ impl Automaton {
     }
 
     /// A class from its first item on, where so many characters are left before it.
-    fn class_of<'a>(&mut self, left: usize, negated: bool, items: &'a [char]) -> Result<Option<Parsed<'a>>, Stop>
+    fn class_of<'a>(
+        &mut self,
+        left: usize,
+        negated: bool,
+        items: &'a [char],
+    ) -> Result<Option<Parsed<'a>>, Stop>
         requires fresh { IsFresh self.old }
         requires room { self.old.size < 64 }
         ensures { ReadsClass left negated items.now self.old self.new result }

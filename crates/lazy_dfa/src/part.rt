@@ -1,12 +1,14 @@
 //! How a part of a condition begins and ends.
 
 ghost use Rattle.std.specs.Prelude.{◌≡◌, ◌+◌, ◌<◌, ℕ};
-ghost use Rattle.lazy_dfa.specs.Expression.{Choice, End, Expression, Nothing, OneOf, Optional, Sequence, Star, CharacterSet, size};
+ghost use Rattle.lazy_dfa.specs.Expression.{CharacterSet, Expression, size};
+ghost use Rattle.lazy_dfa.specs.Expression.{Nothing, OneOf, End, Sequence, Choice, Star, Optional};
 ghost use Rattle.lazy_dfa.specs.Compiled.{Sums};
 
 use crate::positions::{Positions, only, union, union_if};
 
-/// A part of a condition: whether it can read nothing, and which of its atoms can read first and last.
+/// A part of a condition: whether it can read nothing, and which of its atoms can read first and
+/// last.
 #[derive(Clone, Copy)]
 pub struct Part {
     /// It can read nothing, and passes no `$`.
@@ -61,7 +63,8 @@ impl Part {
 
     /// One part behind the other.
     pub fn then(self, other: Part) -> Part
-        ensures { (a b : Expression) (n : ℕ) → Sums self a n → Sums other b (n + size a) → Sums result (Sequence a b) n }
+        ensures { (a b : Expression) (n : ℕ) →
+            Sums self a n → Sums other b (n + size a) → Sums result (Sequence a b) n }
     {
         Part {
             empty: self.empty && other.empty,
@@ -74,7 +77,8 @@ impl Part {
 
     /// One part or the other.
     pub fn or(self, other: Part) -> Part
-        ensures { (a b : Expression) (n : ℕ) → Sums self a n → Sums other b (n + size a) → Sums result (Choice a b) n }
+        ensures { (a b : Expression) (n : ℕ) →
+            Sums self a n → Sums other b (n + size a) → Sums result (Choice a b) n }
     {
         Part {
             empty: self.empty || other.empty,

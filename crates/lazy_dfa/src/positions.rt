@@ -1,4 +1,5 @@
-//! Sets of positions: the places of a condition's atoms, of which there are 64 at most, as the bits of a number.
+//! Sets of positions: the places of a condition's atoms, of which there are 64 at most, as the bits
+//! of a number.
 
 ghost use Rattle.std.specs.Prelude.{◌≡◌, ◌<◌, ◌^◌, ◌==◌, ◌&&◌, ◌||◌, ◌↔◌, ℕ, IsTrue, Bool};
 ghost use Rattle.lazy_dfa.specs.Sets.{has, Meet};

@@ -1,6 +1,7 @@
 //! Stepping through a text.
 
-ghost use Rattle.std.specs.Prelude.{◌≡◌, ◌↔◌, ◌<◌, ◌+◌, ◌++◌, ◌∷◌, [], ℕ, List, Bool, false, None, OnErr, OnOk, IsTrue, MatchResult};
+ghost use Rattle.std.specs.Prelude.{◌≡◌, ◌↔◌, ◌++◌, ◌∷◌, [], ℕ, List, false, None};
+ghost use Rattle.std.specs.Prelude.{OnErr, OnOk, IsTrue, MatchResult};
 ghost use Rattle.std.specs.Str.{chars};
 ghost use Rattle.std.proofs.Common.{rules};
 ghost use Rattle.lazy_dfa.specs.Expression.{Expression};
@@ -15,8 +16,8 @@ use crate::positions::Positions;
 use std::marker::Model;
 use writeable_core::{Sink, SinkError};
 
-/// A sink that steps through a text, piece by piece, without memory. It faults where the condition is
-/// decided, and takes nothing from then on.
+/// A sink that steps through a text, piece by piece, without memory. It faults where the condition
+/// is decided, and takes nothing from then on.
 #[derive(Drop)]
 pub struct Stepper<'a> {
     condition: &'a Condition,
@@ -30,7 +31,8 @@ impl<'a> Model for Stepper<'a> {
 
     ghost Value = { Progress };
 
-    ghost view = { λ s. record { machine = s.condition.now; reached = s.reached; refusals = s.refusals } };
+    ghost view = { λ s.
+        record { machine = s.condition.now; reached = s.reached; refusals = s.refusals } };
 }
 
 impl Stepper<'_> {
@@ -46,14 +48,18 @@ impl Stepper<'_> {
 
     /// Whether the condition holds on the text that was pushed. A decided answer stays.
     pub fn answer(&self) -> bool
-        ensures holds { (c : Expression) (u : List ℕ) → IsFor self.now.machine c → HasRead c u self.now → IsTrue result ↔ holds c u }
-        ensures decided { (c : Expression) (u : List ℕ) → IsFor self.now.machine c → HasRead c u self.now → Decided c u → IsTrue result ↔ early c u }
+        ensures holds { (c : Expression) (u : List ℕ) →
+            IsFor self.now.machine c → HasRead c u self.now → IsTrue result ↔ holds c u }
+        ensures decided { (c : Expression) (u : List ℕ) →
+            IsFor self.now.machine c → HasRead c u self.now → Decided c u →
+            IsTrue result ↔ early c u }
     {
         self.condition.holds_at(self.reached)
     }
 
     fn is_decided(&self) -> bool
-        ensures { (c : Expression) (u : List ℕ) → IsFor self.now.machine c → HasRead c u self.now → IsTrue result ↔ Decided c u }
+        ensures { (c : Expression) (u : List ℕ) →
+            IsFor self.now.machine c → HasRead c u self.now → IsTrue result ↔ Decided c u }
     {
         self.condition.is_decided(self.reached)
     }
@@ -62,7 +68,8 @@ impl Stepper<'_> {
 impl Stepper<'_> {
     /// Counts a refused push: the condition is decided.
     fn refuse(&mut self) -> SinkError
-        requires { (c : Expression) (u : List ℕ) → IsFor self.old.machine c → HasRead c u self.old → Decided c u }
+        requires { (c : Expression) (u : List ℕ) →
+            IsFor self.old.machine c → HasRead c u self.old → Decided c u }
         ensures fault { result ≡ SinkError.Fault }
         ensures took { Took self.old [] self.new }
         ensures rose { Rose self.old.refusals self.new.refusals }
@@ -73,12 +80,17 @@ impl Stepper<'_> {
 
     /// Takes a character. It is refused where it decides the condition.
     fn advance(&mut self, c: char) -> Result<(), SinkError>
-        requires { (e : Expression) (u : List ℕ) → IsFor self.old.machine e → HasRead e u self.old → Decided e u → ⊥ }
+        requires { (e : Expression) (u : List ℕ) →
+            IsFor self.old.machine e → HasRead e u self.old → Decided e u → ⊥ }
         ensures took { Took self.old (c ∷ []) self.new }
         ensures kept { OnOk result (self.new.refusals ≡ self.old.refusals) }
-        ensures undecided { OnOk result ((e : Expression) (u : List ℕ) → IsFor self.new.machine e → HasRead e u self.new → Decided e u → ⊥) }
+        ensures undecided { OnOk result ((e : Expression) (u : List ℕ) →
+            IsFor self.new.machine e → HasRead e u self.new → Decided e u → ⊥) }
         ensures cause { HasCause self.old.refusals self.new.refusals false result }
-        ensures decides { (e : Expression) (u : List ℕ) → IsFor self.old.machine e → HasRead e u self.old → MatchResult result (λ _. Decided e (u ++ c ∷ []) → ⊥) (λ _. Decided e (u ++ c ∷ [])) }
+        ensures decides { (e : Expression) (u : List ℕ) →
+            IsFor self.old.machine e → HasRead e u self.old →
+            MatchResult result
+            (λ _. Decided e (u ++ c ∷ []) → ⊥) (λ _. Decided e (u ++ c ∷ [])) }
     {
         self.reached = Some(self.condition.step(self.reached, c));
         if self.is_decided() {
@@ -111,7 +123,9 @@ impl Sink for Stepper<'_> {
         ensures ok { OnOk result (Took self.old (chars piece.now) self.new) }
         ensures err { OnErr result (TookPrefix Took self.old (chars piece.now) self.new) }
         ensures cause { HasCause self.old.refusals self.new.refusals false result }
-        ensures decides { (e : Expression) (u : List ℕ) → IsFor self.old.machine e → HasRead e u self.old → Decides e u (chars piece.now) self.old result self.new }
+        ensures decides { (e : Expression) (u : List ℕ) →
+            IsFor self.old.machine e → HasRead e u self.old →
+            Decides e u (chars piece.now) self.old result self.new }
     {
         if self.is_decided() {
             return Err(self.refuse());
@@ -126,7 +140,9 @@ impl Sink for Stepper<'_> {
         ensures ok { OnOk result (Took self.old (c ∷ []) self.new) }
         ensures err { OnErr result (TookPrefix Took self.old (c ∷ []) self.new) }
         ensures cause { HasCause self.old.refusals self.new.refusals false result }
-        ensures decides { (e : Expression) (u : List ℕ) → IsFor self.old.machine e → HasRead e u self.old → Decides e u (c ∷ []) self.old result self.new }
+        ensures decides { (e : Expression) (u : List ℕ) →
+            IsFor self.old.machine e → HasRead e u self.old →
+            Decides e u (c ∷ []) self.old result self.new }
     {
         if self.is_decided() {
             return Err(self.refuse());

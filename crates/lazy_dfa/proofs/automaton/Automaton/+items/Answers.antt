@@ -1,4 +1,4 @@
-use Rattle.std.proofs.Common.{[], ◌∷◌, length, arith}
+use Rattle.std.proofs.Common.{[], ◌∷◌, arith}
 use Rattle.lazy_dfa.proofs.ReadingSteps.{item_shorter, items_none, items_last, items_passed}
 use Rattle.lazy_dfa.proofs.Repeating.{behind_shorter}
 use Rattle.lazy_dfa.proofs.automaton.Automaton.+items.Goals as goal

@@ -1,6 +1,5 @@
-use Rattle.std.proofs.Common.{◌≡◌, ◌≤◌, ◌<◌, ℕ, List, Some, length, subst, arith}
+use Rattle.std.proofs.Common.{length, subst, arith}
 use Rattle.lazy_dfa.specs.Expression.{OneOf, set_of}
-use Rattle.lazy_dfa.specs.Building.{ReadsItems}
 use Rattle.lazy_dfa.specs.Compiled.{Sums}
 use Rattle.lazy_dfa.proofs.automaton.Automaton.class_of.Goals as goal
 

@@ -1,4 +1,4 @@
-use Rattle.std.proofs.Common.{ap, ◌∙◌}
+use Rattle.std.proofs.Common.{ap}
 use Rattle.std.specs.List.{list_any}
 use Rattle.lazy_dfa.specs.Compiled.{range_reads}
 use Rattle.lazy_dfa.proofs.Sets.{has-none}

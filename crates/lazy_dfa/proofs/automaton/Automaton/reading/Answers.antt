@@ -1,4 +1,4 @@
-use Rattle.std.proofs.Common.{◌≡◌, ap, sym, ◌∙◌, bit_and}
+use Rattle.std.proofs.Common.{ap, ◌∙◌}
 use Rattle.std.specs.Int.Bits.{bit_xor}
 use Rattle.std.specs.Prelude.{◌&&◌}
 use Rattle.lazy_dfa.specs.Expression.{negated_if}
