@@ -1,5 +1,5 @@
 -- Reading a condition from left to right, as functions. The grammar decides: what is read is the longest `alt`
--- (the laws in proofs/Grammar.antt). Private contracts cite these functions, and no public one.
+-- (proved in proofs/Grammar.antt and proofs/Longest.antt). Private contracts cite these functions, and no public one.
 use Rattle.std.specs.Prelude.{◌≡◌, ℕ, zero, suc, ◌+◌, ◌*◌, ◌≤◌, Bool, true, false, nat_le, ◌==◌, if◌then◌else◌, List, [], ◌∷◌, length, Option, Some, None, Result, Ok, Err}
 use Rattle.std.specs.Option.{option_map}
 use Rattle.lazy_dfa.specs.Expression.{CharacterSet, only, digit, any, Expression, Nothing, OneOf, End, Sequence, Choice, Star, Plus, Optional}
