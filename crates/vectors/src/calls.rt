@@ -1,0 +1,74 @@
+//! Lines and their answers.
+
+use crate::answers;
+use crate::answers::Answer;
+use crate::arguments::Wrong;
+use crate::{hints, texts};
+use serde_json::Value;
+use std::alloc::{AllocError, Global};
+
+/// The answer to a line. A line that is a JSON text is a heading, and is answered by itself.
+pub fn answer_line(alloc: Global, line: &[u8]) -> Result<Value, AllocError> {
+    let line = match Value::from_slice(alloc, line) {
+        Ok(line) => line,
+        Err(error) => {
+            if error.is_memory() {
+                return Err(AllocError);
+            }
+            return wrong(alloc, format!(in alloc; "the line isn't JSON: {error}")?);
+        }
+    };
+    match line {
+        Value::String(heading) => Ok(Value::String(heading)),
+        Value::Array(call) => answer_call(alloc, &call),
+        _ => wrong(
+            alloc,
+            String::from_str(alloc, "the line is to be a JSON array: a call's path, and its arguments")?,
+        ),
+    }
+}
+
+fn answer_call(alloc: Global, call: &[Value]) -> Result<Value, AllocError> {
+    let [Value::String(path), arguments @ ..] = call else {
+        return wrong(
+            alloc,
+            String::from_str(alloc, "the array's first item is to be a call's path")?,
+        );
+    };
+    match answer(alloc, path.as_str(), arguments) {
+        Ok(answer) => Ok(answer),
+        Err(Wrong::NoMemory) => Err(AllocError),
+        Err(Wrong::Call) => {
+            let count = arguments.len();
+            wrong(alloc, format!(in alloc; "no call is {path} with {count} arguments")?)
+        }
+        Err(Wrong::Argument(argument, wanted)) => {
+            wrong(alloc, format!(in alloc; "{wanted} is wanted in place of {argument}")?)
+        }
+        Err(Wrong::Refused(argument, cause)) => {
+            wrong(alloc, format!(in alloc; "{argument} makes no value: {cause}")?)
+        }
+    }
+}
+
+fn wrong(alloc: Global, words: String) -> Result<Value, AllocError> {
+    answers::object(alloc, [("wrong", Value::String(words))])
+}
+
+/// The answer to a call, by its library.
+fn answer<'a>(alloc: Global, path: &str, arguments: &'a [Value]) -> Answer<'a> {
+    let (library, call) = path.split_once("::").ok_or(Wrong::Call)?;
+    match library {
+        "writeable" => writeable_call(alloc, call, arguments),
+        _ => Err(Wrong::Call),
+    }
+}
+
+fn writeable_call<'a>(alloc: Global, call: &str, arguments: &'a [Value]) -> Answer<'a> {
+    match (call, call.split_once("::"), arguments) {
+        (_, Some(("LengthHint", call)), _) => hints::answer(alloc, call, arguments),
+        ("sum_hints" | "sum_lengths", _, [terms]) => hints::answer_sum(alloc, call, terms),
+        (_, _, [value, others @ ..]) => texts::answer(alloc, call, value, others),
+        _ => Err(Wrong::Call),
+    }
+}
