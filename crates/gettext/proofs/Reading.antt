@@ -1,6 +1,5 @@
 -- Rows that are read one after the other.
 use Rattle.std.proofs.Common.{◌≡◌, ℕ, zero, suc, ◌+◌, ◌-◌, ◌≤◌, ◌<◌, List, [], ◌∷◌, ◌++◌, Some, None, refl, ap, ◌∙◌, arith, append_assoc}
-use Rattle.std.specs.List.{AllByRecursion}
 use Rattle.std.proofs.lemmas.List.{append-nil}
 use Rattle.writeable_core.specs.FirstFailure.{first_failure}
 use Rattle.writeable_core.specs.FirstFailureLaws.{failed_first, passed_first}

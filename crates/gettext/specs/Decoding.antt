@@ -17,6 +17,7 @@ AreRowsIn b first later (r ∷ rs) = IsRowIn b first r × AreRowsIn b later late
 unfoldable pub decoded_message : List ℕ → Encoding → Row → Message
 decoded_message b e r = record { key = text_in e (key_bytes b r); forms = map (text_in e) (form_bytes b r) }
 
+-- the messages of rows, the first in one encoding and the others in another
 abbrev pub decoded_messages : List ℕ → Encoding → Encoding → List Row → List Message
 decoded_messages b first later [] = []
 decoded_messages b first later (r ∷ rs) = decoded_message b first r ∷ decoded_messages b later later rs

@@ -48,6 +48,7 @@ utf8_in Windows1252 bytes = encode_utf8_all (map windows_1252 bytes)
 abbrev pub utf_8_labels : List (List ℕ)
 utf_8_labels = codes "utf-8" ∷ codes "utf8" ∷ codes "unicode-1-1-utf-8" ∷ []
 
+-- the labels of windows-1252, those of ASCII and ISO 8859-1 among them
 abbrev pub windows_1252_labels : List (List ℕ)
 windows_1252_labels =
     codes "ascii" ∷ codes "us-ascii" ∷ codes "ansi_x3.4-1968" ∷ codes "cp819" ∷ codes "ibm819"
@@ -55,6 +56,7 @@ windows_1252_labels =
     ∷ codes "iso-ir-100" ∷ codes "csisolatin1" ∷ codes "l1" ∷ codes "latin1" ∷ codes "windows-1252" ∷ codes "cp1252" ∷ codes "x-cp1252"
     ∷ []
 
+-- whether a label is one of some
 abbrev pub is_among : List (List ℕ) → List ℕ → Bool
 is_among labels label = list_any (pointwise nat_eq label) labels
 
@@ -62,9 +64,11 @@ is_among labels label = list_any (pointwise nat_eq label) labels
 abbrev pub without_end : List ℕ → List ℕ
 without_end text = take (length text - suffix_len is_ascii_whitespace text) text
 
+-- the text without the ASCII white space around it
 unfoldable pub trimmed : List ℕ → List ℕ
 trimmed label = without_end (drop (prefix_len is_ascii_whitespace label) label)
 
+-- the encoding that has such a label, in lower case
 abbrev pub encoding_named : List ℕ → Option Encoding
 encoding_named name = if is_among utf_8_labels name then Some Utf8 else if is_among windows_1252_labels name then Some Windows1252 else None
 

@@ -15,6 +15,7 @@ pub data Expression : Type 0 where
   Binary : Operator → Expression → Expression → Expression
   Conditional : Expression → Expression → Expression → Expression
 
+-- the expression that a value of `Ast` is
 abbrev pub tree_of : Ast → Expression
 tree_of N = Count
 tree_of (Integer k) = Number k
@@ -22,9 +23,11 @@ tree_of (Not' p e) = Negation (tree_of e)
 tree_of (Op' o p a q b) = Binary o (tree_of a) (tree_of b)
 tree_of (Ternary' p c q a r b) = Conditional (tree_of c) (tree_of a) (tree_of b)
 
+-- 1 for true, and 0 for false
 abbrev pub truth : Bool → ℕ
 truth b = if b then 1 else 0
 
+-- every number but 0 counts as true
 abbrev pub is_true : ℕ → Bool
 is_true x = not (x == 0)
 

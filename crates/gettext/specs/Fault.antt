@@ -3,6 +3,7 @@ use Rattle.std.specs.Prelude.{ℕ, List, codes}
 use Rattle.gettext.specs.declared.error.Error.{Error}
 use Rattle.gettext.specs.declared.error.Error.TheVariants.{BadMagic, DecodingError, Eof, Io, MalformedMetadata, MisplacedMetadata, PluralParsing, UnknownEncoding, TooLong, NoMemory}
 
+-- what `Error::text` says
 abbrev pub words_of : Error → List ℕ
 words_of BadMagic = codes "bad magic number"
 words_of DecodingError = codes "invalid byte sequence in a string"

@@ -27,6 +27,7 @@ pub record AreFileRows (b : List ℕ) (o : Options) (n : ℕ) (rows : List Row) 
   pub fit : AreRowsIn b (first_encoding o) s.encoding (rows_from b 0 n)
   pub settings : IsSettings o (unwrap_or (found_fields b o n) []) s
 
+-- whether an encoding is UTF-8
 abbrev pub is_utf_8 : Encoding → Bool
 is_utf_8 Utf8 = true
 is_utf_8 Latin1 = false

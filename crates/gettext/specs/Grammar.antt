@@ -9,6 +9,7 @@ use Rattle.gettext.specs.declared.expression.grammar.Level.TheVariants as level
 use Rattle.gettext.specs.Expression.{Expression, Count, Number, Negation, Binary, Conditional}
 use Rattle.gettext.specs.Tokens.{Reads}
 
+-- the levels from the tightest on, in numbers
 abbrev pub rank : Level → ℕ
 rank level.Atom = 0
 rank level.Unary = 1
@@ -32,6 +33,7 @@ tighter level.Conjunction = level.Equality
 tighter level.Disjunction = level.Conjunction
 tighter level.Conditional = level.Disjunction
 
+-- the level of each operator
 abbrev pub level_of : Operator → Level
 level_of Multiply = level.Product
 level_of Divide = level.Product
@@ -70,6 +72,7 @@ pub record IsWhole (tokens : List Token) (e : Expression) : Type 0 where
   pub part : IsPart level.Conditional tokens e height
   pub low : height ≤ height_limit
 
+-- the tokens are no expression
 pub record IsNoWhole (tokens : List Token) : Type 0 where
   pub none : (e : Expression) → IsWhole tokens e → ⊥
 
@@ -79,5 +82,6 @@ pub record expr (text : List ℕ) (e : Expression) : Type 0 where
   pub read : Reads text tokens
   pub whole : IsWhole tokens e
 
+-- the text is no expression
 pub record IsNoExpression (text : List ℕ) : Type 0 where
   pub none : (e : Expression) → expr text e → ⊥

@@ -67,9 +67,11 @@ header_of (m ∷ ms) = option_or (header_of ms) (if has_id m.key then None else 
 abbrev pub plurals_among : List Field → Option ℕ
 plurals_among fields = option_and_then count_in (value_of fields (codes "Plural-Forms"))
 
+-- the number of plurals that a text of metadata names
 unfoldable pub plurals_of : List ℕ → Option ℕ
 plurals_of text = fields_of (encode_utf8_all text) >>= plurals_among
 
+-- the number of plurals that a message with the metadata names
 abbrev pub plurals_named : Message → Option ℕ
 plurals_named m = slice_get m.forms 0 >>= plurals_of
 
@@ -79,9 +81,11 @@ bound_by Function pairs = None
 bound_by Default pairs = header_of pairs >>= plurals_named
 bound_by (Expr e) pairs = header_of pairs >>= plurals_named
 
+-- what the numbers of the forms of messages are below
 abbrev pub bound : Messages → Option ℕ
 bound c = bound_by c.rule c.pairs
 
+-- whether a number is below what bounds it
 abbrev pub is_within : Option ℕ → ℕ → Bool
 is_within None number = true
 is_within (Some b) number = nat_lt number b

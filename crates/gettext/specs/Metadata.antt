@@ -19,15 +19,19 @@ pub record Field : Type 0 where
   pub name : List ℕ
   pub value : List ℕ
 
+-- what lines end at
 abbrev pub is_line_feed : ℕ → Bool
 is_line_feed c = c == 10
 
+-- what stands between the name and the value of a line
 abbrev pub is_colon : ℕ → Bool
 is_colon c = c == 58
 
+-- what the pieces of Plural-Forms end at
 abbrev pub is_semicolon : ℕ → Bool
 is_semicolon c = c == 59
 
+-- what stands between the name and the value of a piece
 abbrev pub is_equals_sign : ℕ → Bool
 is_equals_sign c = c == 61
 
@@ -57,6 +61,7 @@ abbrev pub last_value : (List ℕ → Bool) → List Field → Option (List ℕ)
 last_value p [] = None
 last_value p (f ∷ fs) = option_or (last_value p fs) (if p f.name then Some f.value else None)
 
+-- the value of the last field with that name
 unfoldable pub value_of : List Field → List ℕ → Option (List ℕ)
 value_of fields name = last_value (same_text name) fields
 
@@ -67,10 +72,12 @@ abbrev pub after_word : List ℕ → List ℕ → Option (List ℕ)
 after_word word [] = None
 after_word word (c ∷ cs) = if starts_with nat_eq (c ∷ cs) word then Some (drop (length word) (c ∷ cs)) else after_word word cs
 
+-- what stands before the first place of a word, or the whole text
 abbrev pub before_word : List ℕ → List ℕ → List ℕ
 before_word word [] = []
 before_word word (c ∷ cs) = if starts_with nat_eq (c ∷ cs) word then [] else c ∷ before_word word cs
 
+-- what the name of the encoding stands behind
 abbrev pub charset_word : List ℕ
 charset_word = codes "charset="
 
@@ -80,6 +87,7 @@ charset_in content_type = option_map (before_word charset_word) (after_word char
 
 -- ---- plural forms
 
+-- a field, where there is one, before others
 abbrev pub field_before : Option Field → List Field → List Field
 field_before None fields = fields
 field_before (Some f) fields = f ∷ fields
@@ -97,6 +105,7 @@ plural_fields text = fields_among (slice_split is_semicolon text)
 unfoldable pub plural_in : List ℕ → Option (List ℕ)
 plural_in text = value_of (plural_fields text) (codes "plural")
 
+-- the two names of the number of plurals
 abbrev pub names_count : List ℕ → Bool
 names_count name = same_text name (codes "nplurals") || same_text name (codes "n_plurals")
 
@@ -116,12 +125,15 @@ count_in text = option_and_then number_in (last_value names_count (plural_fields
 abbrev pub FieldMap : Type 0
 FieldMap = FinMap (slice_cmp nat_cmp) (List ℕ)
 
+-- that a map of texts is data, as a model asks
 abbrev pub field_map_code : Coded FieldMap
 field_map_code = code (coded_list coded_ℕ) (coded_list coded_ℕ)
 
+-- the value that a map has under a name
 abbrev pub gives : FieldMap → List ℕ → Option (List ℕ)
 gives map name = get map name
 
+-- the map of texts that a map of borrowed texts is
 unfoldable pub field_map : BTreeMap (Bor (List ℕ)) (Bor (List ℕ)) → FieldMap
 field_map m = from_entries (map (λ e. (e.0.now, e.1.now)) m.entries)
 

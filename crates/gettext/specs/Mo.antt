@@ -21,12 +21,15 @@ use Rattle.gettext.specs.Messages.{Message, Messages, Rule, Default, Expr, Funct
 
 -- ---- where things stand
 
+-- what ends a text
 abbrev pub is_nul : ℕ → Bool
 is_nul byte = byte == 0
 
+-- the magic number of a file whose numbers have the least significant byte first
 abbrev pub little_endian : List ℕ
 little_endian = 0xde ∷ 0x12 ∷ 0x04 ∷ 0x95 ∷ []
 
+-- the magic number of a file whose numbers have the most significant byte first
 abbrev pub big_endian : List ℕ
 big_endian = 0x95 ∷ 0x04 ∷ 0x12 ∷ 0xde ∷ []
 
@@ -34,6 +37,7 @@ big_endian = 0x95 ∷ 0x04 ∷ 0x12 ∷ 0xde ∷ []
 abbrev pub is_big_endian : List ℕ → Bool
 is_big_endian b = same_text (take 4 b) big_endian
 
+-- the number whose four bytes begin at a place
 unfoldable pub number : List ℕ → ℕ → ℕ
 number b at = if is_big_endian b then from_be_bytes w32 (take 4 (drop at b)) else from_le_bytes w32 (take 4 (drop at b))
 
@@ -41,9 +45,11 @@ number b at = if is_big_endian b then from_be_bytes w32 (take 4 (drop at b)) els
 abbrev pub count_of : List ℕ → ℕ
 count_of b = number b 8
 
+-- where the table of the originals starts
 abbrev pub originals_of : List ℕ → ℕ
 originals_of b = number b 12
 
+-- where the table of the translations starts
 abbrev pub translations_of : List ℕ → ℕ
 translations_of b = number b 16
 
@@ -51,9 +57,11 @@ translations_of b = number b 16
 abbrev pub row_place : ℕ → ℕ → ℕ
 row_place table i = table + 8 * i
 
+-- how long the text of row i is
 abbrev pub text_length : List ℕ → ℕ → ℕ → ℕ
 text_length b table i = number b (row_place table i)
 
+-- where the text of row i stands
 abbrev pub text_offset : List ℕ → ℕ → ℕ → ℕ
 text_offset b table i = number b (row_place table i + 4)
 
@@ -61,6 +69,7 @@ text_offset b table i = number b (row_place table i + 4)
 abbrev pub text_of : List ℕ → ℕ → ℕ → List ℕ
 text_of b table i = take (text_length b table i) (drop (text_offset b table i) b)
 
+-- the bytes of the text of row i, and the closing byte
 abbrev pub closed_text_of : List ℕ → ℕ → ℕ → List ℕ
 closed_text_of b table i = take (text_length b table i + 1) (drop (text_offset b table i) b)
 
@@ -68,6 +77,7 @@ closed_text_of b table i = take (text_length b table i + 1) (drop (text_offset b
 abbrev pub original_of : List ℕ → ℕ → List ℕ
 original_of b i = closed_text_of b (originals_of b) i
 
+-- the translation of row i without its closing byte
 abbrev pub translation_of : List ℕ → ℕ → List ℕ
 translation_of b i = text_of b (translations_of b) i
 
@@ -86,6 +96,7 @@ abbrev pub header_text : List Message → Option (List ℕ)
 header_text [] = None
 header_text (m ∷ ms) = if has_id m.key then None else slice_get m.forms 0
 
+-- the fields of a header, of which there are none without one
 abbrev pub fields_of_header : Option (List ℕ) → Option (List Field)
 fields_of_header None = Some []
 fields_of_header (Some text) = fields_of (encode_utf8_all text)
@@ -94,12 +105,15 @@ fields_of_header (Some text) = fields_of (encode_utf8_all text)
 abbrev pub header_fields : List Message → Option (List Field)
 header_fields pairs = fields_of_header (header_text pairs)
 
+-- the name of the encoding among the fields
 abbrev pub charset_of : List Field → Option (List ℕ)
 charset_of fields = option_and_then charset_in (value_of fields (codes "Content-Type"))
 
+-- the plural expression among the fields
 abbrev pub plural_of : List Field → Option (List ℕ)
 plural_of fields = option_and_then plural_in (value_of fields (codes "Plural-Forms"))
 
+-- the encoding that is forced, else the one that a label names, else UTF-8
 abbrev pub encoding_by : Option Encoding → Option (List ℕ) → Option Encoding
 encoding_by (Some forced) charset = Some forced
 encoding_by None None = Some Utf8
@@ -119,11 +133,13 @@ IsRuleBy true plural rule = rule ≡ Function
 IsRuleBy false None rule = rule ≡ Default
 IsRuleBy false (Some plural) rule = (e : Expression) × expr (chars plural) e × (rule ≡ Expr e)
 
+-- the rule of a file with these fields
 abbrev pub IsRule : Options → List Field → Rule → Type 0
 IsRule o fields rule = IsRuleBy o.forced (plural_of fields) rule
 
 -- ---- what a file means
 
+-- each piece of bytes is the text in its place
 abbrev pub AreTexts : Encoding → List (List ℕ) → List (List ℕ) → Type 0
 AreTexts e [] [] = Unit {0}
 AreTexts e (bytes ∷ pieces) (text ∷ texts) = IsText e bytes text × AreTexts e pieces texts
@@ -177,6 +193,7 @@ IsMoFault PluralParsing = Unit {0}
 IsMoFault UnknownEncoding = Unit {0}
 IsMoFault e = ⊥
 
+-- the conditions of the header: its length, its magic number, and where the tables start
 unfoldable pub header_conditions : List ℕ → List (Condition Error)
 header_conditions b =
     (nat_le 28 (length b), Eof)
@@ -185,12 +202,14 @@ header_conditions b =
     ∷ (nat_le (translations_of b) (length b), Eof)
     ∷ []
 
+-- of row i of a table, and of its text
 unfoldable pub text_conditions : List ℕ → ℕ → ℕ → List (Condition Error)
 text_conditions b table i =
     (nat_le (row_place table i + 8) (length b), Eof)
     ∷ (nat_le (text_offset b table i + text_length b table i + 1) (length b), Eof)
     ∷ []
 
+-- of an original of row i, given in bytes
 unfoldable pub head_conditions : Encoding → ℕ → List ℕ → List (Condition Error)
 head_conditions e i original =
     (list_any is_nul original, Eof)
@@ -198,15 +217,19 @@ head_conditions e i original =
     ∷ ((i == 0) || has_id (head_of original), MisplacedMetadata)
     ∷ []
 
+-- of a translation, given in bytes
 unfoldable pub forms_conditions : Encoding → List ℕ → List (Condition Error)
 forms_conditions e translation = (list_all (is_valid e) (pieces_of translation), DecodingError) ∷ []
 
+-- of row i among the originals
 unfoldable pub original_conditions : List ℕ → Encoding → ℕ → List (Condition Error)
 original_conditions b e i = text_conditions b (originals_of b) i ++ head_conditions e i (original_of b i)
 
+-- of row i among the translations
 unfoldable pub translation_conditions : List ℕ → Encoding → ℕ → List (Condition Error)
 translation_conditions b e i = text_conditions b (translations_of b) i ++ forms_conditions e (translation_of b i)
 
+-- of row i
 unfoldable pub row_conditions : List ℕ → Encoding → ℕ → List (Condition Error)
 row_conditions b e i = original_conditions b e i ++ translation_conditions b e i
 
@@ -223,11 +246,13 @@ row_message b e i = record { key = text_in e (head_of (original_of b i)); forms 
 unfoldable pub fields_in_file : List ℕ → Options → Option (List Field)
 fields_in_file b o = header_fields (row_message b (first_encoding o) 0 ∷ [])
 
+-- the same as a function: none where the text is no expression
 abbrev pub rule_by : Bool → Option (List ℕ) → Option Rule
 rule_by true plural = Some Function
 rule_by false None = Some Default
 rule_by false (Some plural) = option_map Expr (expression_of (chars plural))
 
+-- the rule of a file with these fields, where there is one
 abbrev pub rule_of : Options → List Field → Option Rule
 rule_of o fields = rule_by o.forced (plural_of fields)
 

@@ -24,12 +24,14 @@ Gives P result fault = MatchResult result (λ x. P x × (fault ≡ None)) (λ e.
 abbrev pub GivesInMemory : {X : Type 0} → (X → Type 0) → Result X Error → Option Error → Type 0
 GivesInMemory P result fault = MatchResult result (λ x. P x × (fault ≡ None)) (λ e. (e ≡ NoMemory) ⊎ (fault ≡ Some e))
 
+-- what is read of the first 28 bytes
 pub record IsHeader (b : List ℕ) (header : Header) : Type 0 where
   pub count : header.count ≡ count_of b
   pub originals : header.originals ≡ originals_of b
   pub translations : header.translations ≡ translations_of b
   pub order : header.big_endian ≡ is_big_endian b
 
+-- where the text of row i of a table stands
 unfoldable pub text_span : List ℕ → ℕ → ℕ → Span
 text_span b table i = record { start = text_offset b table i; end = text_offset b table i + text_length b table i }
 
@@ -41,6 +43,7 @@ pub record IsTextSpan (b : List ℕ) (table i : ℕ) (span : Span) : Type 0 wher
   pub closed : take (span.end + 1 - span.start) (drop span.start b) ≡ closed_text_of b table i
   pub text : take (span.end - span.start) (drop span.start b) ≡ text_of b table i
 
+-- where the head of the original of row i stands
 unfoldable pub head_span : List ℕ → ℕ → Span
 head_span b i =
     record {

@@ -14,6 +14,7 @@ abbrev pub plurals_by : Bool → List Field → Option ℕ
 plurals_by true fields = None
 plurals_by false fields = plurals_among fields
 
+-- what the fields of the metadata settle under these options
 pub record IsSettings (o : Options) (fields : List Field) (s : Settings) : Type 0 where
   pub encoding : named_encoding o fields ≡ Some s.encoding
   pub rule : rule_of o fields ≡ Some (rule_shown s.rule)

@@ -20,21 +20,27 @@ pub record Held : Type 0 where
   pub pairs : List Message
   pub buffer : List ℕ
 
+-- the messages of a catalog
 abbrev pub messages_of : Held → Messages
 messages_of h = record { rule = rule_shown h.rule; pairs = h.pairs }
 
+-- the bytes of a range
 abbrev pub bytes_at : List ℕ → Span → List ℕ
 bytes_at buffer span = take (span.end - span.start) (drop span.start buffer)
 
+-- the bytes of the key of a row
 unfoldable pub key_bytes : List ℕ → Row → List ℕ
 key_bytes buffer row = bytes_at buffer row.key
 
+-- the bytes of each form of a row
 unfoldable pub form_bytes : List ℕ → Row → List (List ℕ)
 form_bytes buffer row = pieces_of (bytes_at buffer row.forms)
 
+-- the message of a row
 unfoldable pub message_at : List ℕ → Row → Message
 message_at buffer row = record { key = chars (key_bytes buffer row); forms = map chars (form_bytes buffer row) }
 
+-- what rows of a buffer and a rule hold
 unfoldable pub held : List ℕ → List Row → PluralRule → Held
 held buffer rows rule = record { rule = rule; pairs = map (message_at buffer) rows; buffer = buffer }
 
@@ -43,6 +49,7 @@ abbrev pub row_for : List ℕ → List Row → List ℕ → Option Row
 row_for buffer [] key = None
 row_for buffer (r ∷ rs) key = option_or (row_for buffer rs key) (if same_text (key_bytes buffer r) key then Some r else None)
 
+-- a range lies in the buffer
 pub record LiesIn (buffer : List ℕ) (span : Span) : Type 0 where
   pub ordered : span.start ≤ span.end
   pub inside : span.end ≤ length buffer
@@ -54,6 +61,7 @@ pub record IsRowOf (buffer : List ℕ) (row : Row) : Type 0 where
   pub forms_inside : LiesIn buffer row.forms
   pub forms : list_all is_utf8 (form_bytes buffer row) ≡ true
 
+-- each row fits, and the keys ascend, so that no two are one
 pub record IsTable (buffer : List ℕ) (rows : List Row) : Type 0 where
   pub rows_fit : AllByRecursion (IsRowOf buffer) rows
   pub keys_ascend : IsStrictlySortedBy (slice_cmp nat_cmp) (map (key_bytes buffer) rows)

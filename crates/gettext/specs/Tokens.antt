@@ -60,5 +60,6 @@ pub data Reads : List ℕ → List Token → Type 0 where
   space : {c : ℕ} {text : List ℕ} {tokens : List Token} → is_space c ≡ true → Reads text tokens → Reads (c ∷ text) tokens
   token : {c : ℕ} {text : List ℕ} {t : Token} {len : ℕ} {tokens : List Token} → is_space c ≡ false → token_at (c ∷ text) ≡ Some (t, len) → Reads (drop len (c ∷ text)) tokens → Reads (c ∷ text) (t ∷ tokens)
 
+-- the text is no tokens
 pub record IsUnreadable (text : List ℕ) : Type 0 where
   pub none : (tokens : List Token) → Reads text tokens → ⊥

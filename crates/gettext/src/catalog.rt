@@ -53,23 +53,29 @@ impl Catalog {
     /// 67,108,864 bytes at most.
     pub fn parse<S: Source>(alloc: Global, source: &mut S) -> Result<Catalog, Error>
         // A file that means something is read as that, unless the source or memory fails.
-        ensures ok { IfSome (S.left source.old) (λ bytes. (c : Messages) → length bytes ≤ most_bytes → entries bytes plain_options c
-            → MatchResult result (λ catalog. StandsFor (messages_of catalog.entries) c) IsReadFault) }
+        ensures ok { IfSome (S.left source.old)
+            (λ bytes. (c : Messages) → length bytes ≤ most_bytes → entries bytes plain_options c
+            → MatchResult result
+            (λ catalog. StandsFor (messages_of catalog.entries) c) IsReadFault) }
 
         // What is read means something.
-        ensures sound { IfOk result (λ catalog. IfSome (S.left source.old) (λ bytes. (length bytes ≤ most_bytes)
-            × (c : Messages) × entries bytes plain_options c × StandsFor (messages_of catalog.entries) c)) }
+        ensures sound { IfOk result (λ catalog. IfSome (S.left source.old)
+            (λ bytes. (length bytes ≤ most_bytes)
+            × (c : Messages) × entries bytes plain_options c
+            × StandsFor (messages_of catalog.entries) c)) }
         ensures buffer { IfOk result (λ catalog. IfSome (S.left source.old)
             (λ bytes. IsInUtf8 bytes plain_options → catalog.entries.buffer ≡ bytes)) }
 
         // The answer is the one that the source's bytes have, unless the source or memory fails.
-        ensures exact { IfSome (S.left source.old) (λ bytes. MatchResult result (λ _. source_fault bytes plain_options ≡ None)
+        ensures exact { IfSome (S.left source.old)
+            (λ bytes. MatchResult result (λ _. source_fault bytes plain_options ≡ None)
             (λ e. IsReadFault e ⊎ (source_fault bytes plain_options ≡ Some e))) }
         ensures io { IfErr result (λ e. e ≡ Io → Rose (S.faults source.old) (S.faults source.new)) }
         ensures later { S.faults source.old ≤ S.faults source.new }
 
         // The source was read to its end, and no read failed.
-        ensures read_to_end { IfErr result ComesAtEnd → IsReadToEnd S.left S.ended S.faults source.old source.new }
+        ensures read_to_end { IfErr result ComesAtEnd
+            → IsReadToEnd S.left S.ended S.faults source.old source.new }
         ensures no_fault { IsErrOf result TooLong → S.faults source.new ≡ S.faults source.old }
     {
         ParseOptions::new().parse(alloc, source)
@@ -79,7 +85,8 @@ impl Catalog {
     pub fn parse_bytes(alloc: Global, bytes: &[u8]) -> Result<Catalog, Error>
         // A file that means something is read as that, unless memory runs out.
         ensures ok { (c : Messages) → entries bytes.now plain_options c
-            → MatchResult result (λ catalog. StandsFor (messages_of catalog.entries) c) (λ e. e ≡ NoMemory) }
+            → MatchResult result (λ catalog. StandsFor (messages_of catalog.entries) c)
+            (λ e. e ≡ NoMemory) }
 
         // A fault is the first condition that fails, unless memory runs out.
         ensures err { (fault : Error) → mo_fault bytes.now plain_options ≡ Some fault
@@ -90,7 +97,8 @@ impl Catalog {
             × StandsFor (messages_of catalog.entries) c) }
         ensures cause { MatchResult result (λ _. mo_fault bytes.now plain_options ≡ None)
             (λ e. (e ≡ NoMemory) ⊎ (mo_fault bytes.now plain_options ≡ Some e)) }
-        ensures buffer { IfOk result (λ catalog. IsInUtf8 bytes.now plain_options → catalog.entries.buffer ≡ bytes.now) }
+        ensures buffer { IfOk result (λ catalog. IsInUtf8 bytes.now plain_options
+            → catalog.entries.buffer ≡ bytes.now) }
     {
         ParseOptions::new().parse_bytes(alloc, bytes)
     }
@@ -109,7 +117,9 @@ impl Catalog {
     /// The form for `n` of the message with that id, or the id for 1, and the plural id otherwise.
     pub fn ngettext<'a>(&'a self, msg_id: &'a str, msg_id_plural: &'a str, n: u64) -> &'a str
         ensures text { (c : Messages) → StandsFor (messages_of self.now.entries) c
-            → chars result.now ≡ text_or (form c (chars msg_id.now) n) (own_words n (chars msg_id.now) (chars msg_id_plural.now)) }
+            → chars result.now
+            ≡ text_or (form c (chars msg_id.now) n)
+            (own_words n (chars msg_id.now) (chars msg_id_plural.now)) }
     {
         match self.find(None, msg_id, n) {
             Some(form) => form.text,
@@ -127,7 +137,8 @@ impl Catalog {
         n: u64,
     ) -> &'a str
         ensures text { (c : Messages) → StandsFor (messages_of self.now.entries) c
-            → chars result.now ≡ text_or (form c (key_of (Some (chars msg_context.now)) (chars msg_id.now)) n)
+            → chars result.now
+            ≡ text_or (form c (key_of (Some (chars msg_context.now)) (chars msg_id.now)) n)
             (own_words n (chars msg_id.now) (chars msg_id_plural.now)) }
     {
         match self.find(Some(msg_context), msg_id, n) {
@@ -140,9 +151,11 @@ impl Catalog {
 impl Catalog<PluralFunction> {
     /// The form for `n` of the message with that context and id. Nothing is joined and nothing copied.
     pub fn find(&self, context: Option<&str>, id: &str, n: u64) -> Option<Form<'_>>
-        ensures found { (c : Messages) → StandsFor (messages_of self.now.entries) c → (k : ℕ) × post self.now.plural.plural n k
+        ensures found { (c : Messages) → StandsFor (messages_of self.now.entries) c → (k : ℕ)
+            × post self.now.plural.plural n k
             × (option_map (λ f. (f.number, chars f.text.now)) result
-            ≡ numbered_within c (key_of (option_map (λ s. chars s.now) context.entry) (chars id.now)) k) }
+            ≡ numbered_within c
+            (key_of (option_map (λ s. chars s.now) context.entry) (chars id.now)) k) }
     {
         let number = self.plural.call(n);
         let text = self.entries.form_within(context, id, number)?;
@@ -151,7 +164,8 @@ impl Catalog<PluralFunction> {
 
     /// The form for `n` of the message with that id, or the id for 1, and the plural id otherwise.
     pub fn ngettext<'a>(&'a self, msg_id: &'a str, msg_id_plural: &'a str, n: u64) -> &'a str
-        ensures text { (c : Messages) → StandsFor (messages_of self.now.entries) c → (k : ℕ) × post self.now.plural.plural n k
+        ensures text { (c : Messages) → StandsFor (messages_of self.now.entries) c → (k : ℕ)
+            × post self.now.plural.plural n k
             × (chars result.now ≡ text_or (numbered_within c (chars msg_id.now) k)
             (own_words n (chars msg_id.now) (chars msg_id_plural.now))) }
     {
@@ -170,8 +184,11 @@ impl Catalog<PluralFunction> {
         msg_id_plural: &'a str,
         n: u64,
     ) -> &'a str
-        ensures text { (c : Messages) → StandsFor (messages_of self.now.entries) c → (k : ℕ) × post self.now.plural.plural n k
-            × (chars result.now ≡ text_or (numbered_within c (key_of (Some (chars msg_context.now)) (chars msg_id.now)) k)
+        ensures text { (c : Messages) → StandsFor (messages_of self.now.entries) c → (k : ℕ)
+            × post self.now.plural.plural n k
+            × (chars result.now
+            ≡ text_or (numbered_within c
+            (key_of (Some (chars msg_context.now)) (chars msg_id.now)) k)
             (own_words n (chars msg_id.now) (chars msg_id_plural.now))) }
     {
         match self.find(Some(msg_context), msg_id, n) {
@@ -185,7 +202,8 @@ impl<P: Drop> Catalog<P> {
     /// How many forms the message with that context and id has.
     pub fn form_count(&self, context: Option<&str>, id: &str) -> Option<usize>
         ensures count { (c : Messages) → StandsFor (messages_of self.now.entries) c
-            → result ≡ count_of_forms c (key_of (option_map (λ s. chars s.now) context.entry) (chars id.now)) }
+            → result ≡ count_of_forms c
+            (key_of (option_map (λ s. chars s.now) context.entry) (chars id.now)) }
     {
         self.entries.form_count(context, id)
     }
@@ -194,7 +212,8 @@ impl<P: Drop> Catalog<P> {
     pub fn form_text(&self, context: Option<&str>, id: &str, number: usize) -> Option<&str>
         ensures text { (c : Messages) → StandsFor (messages_of self.now.entries) c
             → option_map (λ text. (number, chars text.now)) result
-            ≡ numbered c (key_of (option_map (λ s. chars s.now) context.entry) (chars id.now)) number }
+            ≡ numbered c (key_of (option_map (λ s. chars s.now) context.entry)
+            (chars id.now)) number }
     {
         self.entries.form(context, id, number)
     }
@@ -207,7 +226,9 @@ impl<P: Drop> Catalog<P> {
         number: usize,
     ) -> Option<(usize, usize)>
         ensures range { (c : Messages) → StandsFor (messages_of self.now.entries) c
-            → IsRangeOf self.now.entries.buffer result (numbered c (key_of (option_map (λ s. chars s.now) context.entry) (chars id.now)) number) }
+            → IsRangeOf self.now.entries.buffer result
+            (numbered c (key_of (option_map (λ s. chars s.now) context.entry)
+            (chars id.now)) number) }
     {
         self.entries.form_range(context, id, number)
     }
@@ -230,7 +251,9 @@ impl<P: Drop> Catalog<P> {
     /// The first form of the message with that context and id, or the id.
     pub fn pgettext<'a>(&'a self, msg_context: &'a str, msg_id: &'a str) -> &'a str
         ensures text { (c : Messages) → StandsFor (messages_of self.now.entries) c
-            → chars result.now ≡ text_or (numbered c (key_of (Some (chars msg_context.now)) (chars msg_id.now)) 0) (chars msg_id.now) }
+            → chars result.now
+            ≡ text_or (numbered c (key_of (Some (chars msg_context.now)) (chars msg_id.now)) 0)
+            (chars msg_id.now) }
     {
         self.form_text(Some(msg_context), msg_id, 0)
             .unwrap_or(msg_id)
@@ -247,9 +270,12 @@ fn own_words<'a>(msg_id: &'a str, msg_id_plural: &'a str, n: u64) -> &'a str
 /// A file has no fault exactly where it means something, and then it means one thing: what stands
 /// for that gives each form alike.
 pub fn one_meaning()
-    ensures faultless { (b : List ℕ) (o : Options) → (mo_fault b o ≡ None) ↔ ((c : Messages) × entries b o c) }
-    ensures unique { (b : List ℕ) (o : Options) (c d : Messages) → entries b o c → entries b o d → c ≡ d }
-    ensures alike { (b : List ℕ) (o : Options) (c kept : Messages) → entries b o c → StandsFor kept c
+    ensures faultless { (b : List ℕ) (o : Options)
+        → (mo_fault b o ≡ None) ↔ ((c : Messages) × entries b o c) }
+    ensures unique { (b : List ℕ) (o : Options) (c d : Messages) → entries b o c → entries b o d
+        → c ≡ d }
+    ensures alike { (b : List ℕ) (o : Options) (c kept : Messages) → entries b o c
+        → StandsFor kept c
         → (key : List ℕ) (n : ℕ) → form kept key n ≡ form c key n }
     ensures faults { (b : List ℕ) (o : Options) (e : Error) → mo_fault b o ≡ Some e → IsMoFault e }
 {}

@@ -29,8 +29,10 @@ use writeable_core::Source;
 pub fn table_of_bytes(alloc: Global, bytes: &[u8], options: Options) -> Result<Table, Error>
     ensures ok { (c : Messages) → entries bytes.now options c
         → MatchResult result (λ table. StandsFor (messages_of table) c) (λ e. e ≡ NoMemory) }
-    ensures err { (fault : Error) → mo_fault bytes.now options ≡ Some fault → IsErrAnd result (λ e. (e ≡ NoMemory) ⊎ (e ≡ fault)) }
-    ensures sound { IfOk result (λ table. (c : Messages) × entries bytes.now options c × StandsFor (messages_of table) c) }
+    ensures err { (fault : Error) → mo_fault bytes.now options ≡ Some fault → IsErrAnd result
+        (λ e. (e ≡ NoMemory) ⊎ (e ≡ fault)) }
+    ensures sound { IfOk result (λ table. (c : Messages) × entries bytes.now options c
+        × StandsFor (messages_of table) c) }
     ensures cause { MatchResult result (λ _. mo_fault bytes.now options ≡ None)
         (λ e. (e ≡ NoMemory) ⊎ (mo_fault bytes.now options ≡ Some e)) }
     ensures buffer { IfOk result (λ table. IsInUtf8 bytes.now options → table.buffer ≡ bytes.now) }
@@ -50,17 +52,22 @@ pub fn table_of_source<S: Source>(
     source: &mut S,
     options: Options,
 ) -> Result<Table, Error>
-    ensures sound { IfOk result (λ table. IfSome (S.left source.old) (λ bytes. (length bytes ≤ most_bytes)
+    ensures sound { IfOk result (λ table. IfSome (S.left source.old)
+        (λ bytes. (length bytes ≤ most_bytes)
         × (c : Messages) × entries bytes options c × StandsFor (messages_of table) c)) }
-    ensures read_to_end { IfErr result ComesAtEnd → IsReadToEnd S.left S.ended S.faults source.old source.new }
+    ensures read_to_end { IfErr result ComesAtEnd
+        → IsReadToEnd S.left S.ended S.faults source.old source.new }
     ensures no_fault { IsErrOf result TooLong → S.faults source.new ≡ S.faults source.old }
-    ensures exact { IfSome (S.left source.old) (λ bytes. MatchResult result (λ _. source_fault bytes options ≡ None)
+    ensures exact { IfSome (S.left source.old)
+        (λ bytes. MatchResult result (λ _. source_fault bytes options ≡ None)
         (λ e. IsReadFault e ⊎ (source_fault bytes options ≡ Some e))) }
     ensures io { IfErr result (λ e. e ≡ Io → Rose (S.faults source.old) (S.faults source.new)) }
-    ensures ok { IfSome (S.left source.old) (λ bytes. (c : Messages) → length bytes ≤ most_bytes → entries bytes options c
+    ensures ok { IfSome (S.left source.old)
+        (λ bytes. (c : Messages) → length bytes ≤ most_bytes → entries bytes options c
         → MatchResult result (λ table. StandsFor (messages_of table) c) IsReadFault) }
     ensures later { S.faults source.old ≤ S.faults source.new }
-    ensures buffer { IfOk result (λ table. IfSome (S.left source.old) (λ bytes. IsInUtf8 bytes options → table.buffer ≡ bytes)) }
+    ensures buffer { IfOk result (λ table. IfSome (S.left source.old)
+        (λ bytes. IsInUtf8 bytes options → table.buffer ≡ bytes)) }
 {
     let bytes = read_all(alloc, source)?;
     let File {

@@ -72,7 +72,8 @@ pub fn header_of(bytes: &[u8]) -> Result<Header, Error>
 #[tactic(auto, unfolding(crate::specs::Mo::text_conditions, crate::specs::Reading::text_span))]
 fn text_at(bytes: &[u8], big_endian: bool, table: u32, index: u32) -> Result<Span, Error>
     requires { big_endian ≡ is_big_endian bytes.now }
-    ensures { Gives (IsTextSpan bytes.now table index) result (first_failure (text_conditions bytes.now table index)) }
+    ensures { Gives (IsTextSpan bytes.now table index)
+        result (first_failure (text_conditions bytes.now table index)) }
 {
     let row = table as usize + 8 * index as usize;
     if bytes.len() < row + 8 {
@@ -90,7 +91,8 @@ fn text_at(bytes: &[u8], big_endian: bool, table: u32, index: u32) -> Result<Spa
 /// How long the key of an original is: what stands before its first NUL.
 #[tactic(auto, using(crate::proofs::Conditions::by_parts))]
 fn key_len(original: &[u8], encoding: Encoding, index: u32) -> Result<usize, Error>
-    ensures fault { Gives (λ len. len ≡ length (head_of original.now)) result (first_failure (head_conditions encoding index original.now)) }
+    ensures fault { Gives (λ len. len ≡ length (head_of original.now))
+        result (first_failure (head_conditions encoding index original.now)) }
     ensures inside { IfOk result (λ len. len < length original.now) }
 {
     let len = nul_place(original);
@@ -125,7 +127,8 @@ fn separator_place(key: &[u8]) -> usize
 #[tactic(auto, using(crate::proofs::Conditions::by_parts), unfolding(crate::specs::Mo::original_conditions, crate::specs::Reading::head_span))]
 fn key_at(bytes: &[u8], header: Header, encoding: Encoding, index: u32) -> Result<Span, Error>
     requires { IsHeader bytes.now header }
-    ensures { Gives (λ span. span ≡ head_span bytes.now index) result (first_failure (original_conditions bytes.now encoding index)) }
+    ensures { Gives (λ span. span ≡ head_span bytes.now index)
+        result (first_failure (original_conditions bytes.now encoding index)) }
 {
     let text = text_at(bytes, header.big_endian, header.originals, index)?;
     let len = key_len(&bytes[text.start..text.end + 1], encoding, index)?;
@@ -139,7 +142,8 @@ fn key_at(bytes: &[u8], header: Header, encoding: Encoding, index: u32) -> Resul
 #[tactic(auto, using(crate::proofs::Conditions::by_parts), unfolding(crate::specs::Mo::translation_conditions, crate::specs::Mo::forms_conditions))]
 fn forms_at(bytes: &[u8], header: Header, encoding: Encoding, index: u32) -> Result<Span, Error>
     requires { IsHeader bytes.now header }
-    ensures { Gives (IsTextSpan bytes.now (translations_of bytes.now) index) result (first_failure (translation_conditions bytes.now encoding index)) }
+    ensures { Gives (IsTextSpan bytes.now (translations_of bytes.now) index)
+        result (first_failure (translation_conditions bytes.now encoding index)) }
 {
     let text = text_at(bytes, header.big_endian, header.translations, index)?;
     if !are_valid(encoding, &bytes[text.start..text.end]) {
@@ -160,7 +164,8 @@ fn are_valid(encoding: Encoding, forms: &[u8]) -> bool
 #[tactic(auto, using(crate::proofs::Conditions::by_parts), unfolding(crate::specs::Mo::row_conditions, crate::specs::Reading::row_of))]
 pub fn row_at(bytes: &[u8], header: Header, encoding: Encoding, index: u32) -> Result<Row, Error>
     requires { IsHeader bytes.now header }
-    ensures { Gives (IsReadRow bytes.now encoding index) result (first_failure (row_conditions bytes.now encoding index)) }
+    ensures { Gives (IsReadRow bytes.now encoding index)
+        result (first_failure (row_conditions bytes.now encoding index)) }
 {
     let key = key_at(bytes, header, encoding, index)?;
     let forms = forms_at(bytes, header, encoding, index)?;
@@ -177,7 +182,8 @@ pub fn push_rows(
 ) -> Result<(), Error>
     requires header { IsHeader bytes.now header }
     requires first { first ≤ header.count }
-    ensures { GivesInMemory (λ _. Pushed rows.old.items rows.new.items bytes.now encoding first (header.count - first)) result
+    ensures { GivesInMemory (λ _. Pushed rows.old.items rows.new.items bytes.now encoding first
+        (header.count - first)) result
         (first_failure (rows_conditions bytes.now encoding first (header.count - first))) }
 {
     for index in first..header.count {

@@ -67,19 +67,27 @@ impl ParseOptions {
 
     /// As [`Catalog::parse`].
     pub fn parse<S: Source>(self, alloc: Global, source: &mut S) -> Result<Catalog, Error>
-        ensures sound { IfOk result (λ catalog. IfSome (S.left source.old) (λ bytes. (length bytes ≤ most_bytes)
-            × (c : Messages) × entries bytes (options_of self.encoding false) c × StandsFor (messages_of catalog.entries) c)) }
-        ensures read_to_end { IfErr result ComesAtEnd → IsReadToEnd S.left S.ended S.faults source.old source.new }
+        ensures sound { IfOk result (λ catalog. IfSome (S.left source.old)
+            (λ bytes. (length bytes ≤ most_bytes)
+            × (c : Messages) × entries bytes (options_of self.encoding false) c
+            × StandsFor (messages_of catalog.entries) c)) }
+        ensures read_to_end { IfErr result ComesAtEnd
+            → IsReadToEnd S.left S.ended S.faults source.old source.new }
         ensures no_fault { IsErrOf result TooLong → S.faults source.new ≡ S.faults source.old }
-        ensures exact { IfSome (S.left source.old) (λ bytes. MatchResult result (λ _. source_fault bytes (options_of self.encoding false) ≡ None)
+        ensures exact { IfSome (S.left source.old)
+            (λ bytes. MatchResult result
+            (λ _. source_fault bytes (options_of self.encoding false) ≡ None)
             (λ e. IsReadFault e ⊎ (source_fault bytes (options_of self.encoding false) ≡ Some e))) }
         ensures io { IfErr result (λ e. e ≡ Io → Rose (S.faults source.old) (S.faults source.new)) }
         ensures ok { IfSome (S.left source.old)
-            (λ bytes. (c : Messages) → length bytes ≤ most_bytes → entries bytes (options_of self.encoding false) c
-            → MatchResult result (λ catalog. StandsFor (messages_of catalog.entries) c) IsReadFault) }
+            (λ bytes. (c : Messages) → length bytes ≤ most_bytes
+            → entries bytes (options_of self.encoding false) c
+            → MatchResult result
+            (λ catalog. StandsFor (messages_of catalog.entries) c) IsReadFault) }
         ensures later { S.faults source.old ≤ S.faults source.new }
         ensures buffer { IfOk result (λ catalog. IfSome (S.left source.old)
-            (λ bytes. IsInUtf8 bytes (options_of self.encoding false) → catalog.entries.buffer ≡ bytes)) }
+            (λ bytes. IsInUtf8 bytes (options_of self.encoding false)
+            → catalog.entries.buffer ≡ bytes)) }
     {
         let options = Options {
             encoding: self.encoding,
@@ -94,14 +102,19 @@ impl ParseOptions {
     /// As [`Catalog::parse_bytes`].
     pub fn parse_bytes(self, alloc: Global, bytes: &[u8]) -> Result<Catalog, Error>
         ensures ok { (c : Messages) → entries bytes.now (options_of self.encoding false) c
-            → MatchResult result (λ catalog. StandsFor (messages_of catalog.entries) c) (λ e. e ≡ NoMemory) }
-        ensures err { (fault : Error) → mo_fault bytes.now (options_of self.encoding false) ≡ Some fault
+            → MatchResult result (λ catalog. StandsFor (messages_of catalog.entries) c)
+            (λ e. e ≡ NoMemory) }
+        ensures err { (fault : Error) → mo_fault bytes.now (options_of self.encoding false)
+            ≡ Some fault
             → IsErrAnd result (λ e. (e ≡ NoMemory) ⊎ (e ≡ fault)) }
-        ensures sound { IfOk result (λ catalog. (c : Messages) × entries bytes.now (options_of self.encoding false) c
+        ensures sound { IfOk result (λ catalog. (c : Messages)
+            × entries bytes.now (options_of self.encoding false) c
             × StandsFor (messages_of catalog.entries) c) }
-        ensures cause { MatchResult result (λ _. mo_fault bytes.now (options_of self.encoding false) ≡ None)
+        ensures cause { MatchResult result
+            (λ _. mo_fault bytes.now (options_of self.encoding false) ≡ None)
             (λ e. (e ≡ NoMemory) ⊎ (mo_fault bytes.now (options_of self.encoding false) ≡ Some e)) }
-        ensures buffer { IfOk result (λ catalog. IsInUtf8 bytes.now (options_of self.encoding false) → catalog.entries.buffer ≡ bytes.now) }
+        ensures buffer { IfOk result (λ catalog. IsInUtf8 bytes.now (options_of self.encoding false)
+            → catalog.entries.buffer ≡ bytes.now) }
     {
         let options = Options {
             encoding: self.encoding,
@@ -121,19 +134,27 @@ impl ParseOptions<PluralFunction> {
         alloc: Global,
         source: &mut S,
     ) -> Result<Catalog<PluralFunction>, Error>
-        ensures sound { IfOk result (λ catalog. IfSome (S.left source.old) (λ bytes. (length bytes ≤ most_bytes)
-            × (c : Messages) × entries bytes (options_of self.encoding true) c × StandsFor (messages_of catalog.entries) c)) }
-        ensures read_to_end { IfErr result ComesAtEnd → IsReadToEnd S.left S.ended S.faults source.old source.new }
+        ensures sound { IfOk result (λ catalog. IfSome (S.left source.old)
+            (λ bytes. (length bytes ≤ most_bytes)
+            × (c : Messages) × entries bytes (options_of self.encoding true) c
+            × StandsFor (messages_of catalog.entries) c)) }
+        ensures read_to_end { IfErr result ComesAtEnd
+            → IsReadToEnd S.left S.ended S.faults source.old source.new }
         ensures no_fault { IsErrOf result TooLong → S.faults source.new ≡ S.faults source.old }
-        ensures exact { IfSome (S.left source.old) (λ bytes. MatchResult result (λ _. source_fault bytes (options_of self.encoding true) ≡ None)
+        ensures exact { IfSome (S.left source.old)
+            (λ bytes. MatchResult result
+            (λ _. source_fault bytes (options_of self.encoding true) ≡ None)
             (λ e. IsReadFault e ⊎ (source_fault bytes (options_of self.encoding true) ≡ Some e))) }
         ensures io { IfErr result (λ e. e ≡ Io → Rose (S.faults source.old) (S.faults source.new)) }
         ensures ok { IfSome (S.left source.old)
-            (λ bytes. (c : Messages) → length bytes ≤ most_bytes → entries bytes (options_of self.encoding true) c
-            → MatchResult result (λ catalog. StandsFor (messages_of catalog.entries) c) IsReadFault) }
+            (λ bytes. (c : Messages) → length bytes ≤ most_bytes
+            → entries bytes (options_of self.encoding true) c
+            → MatchResult result
+            (λ catalog. StandsFor (messages_of catalog.entries) c) IsReadFault) }
         ensures later { S.faults source.old ≤ S.faults source.new }
         ensures buffer { IfOk result (λ catalog. IfSome (S.left source.old)
-            (λ bytes. IsInUtf8 bytes (options_of self.encoding true) → catalog.entries.buffer ≡ bytes)) }
+            (λ bytes. IsInUtf8 bytes (options_of self.encoding true)
+            → catalog.entries.buffer ≡ bytes)) }
         ensures plural { IfOk result (λ catalog. catalog.plural ≡ self.plural) }
     {
         let options = Options {
@@ -149,14 +170,19 @@ impl ParseOptions<PluralFunction> {
     /// As [`Catalog::parse_bytes`].
     pub fn parse_bytes(self, alloc: Global, bytes: &[u8]) -> Result<Catalog<PluralFunction>, Error>
         ensures ok { (c : Messages) → entries bytes.now (options_of self.encoding true) c
-            → MatchResult result (λ catalog. StandsFor (messages_of catalog.entries) c) (λ e. e ≡ NoMemory) }
-        ensures err { (fault : Error) → mo_fault bytes.now (options_of self.encoding true) ≡ Some fault
+            → MatchResult result (λ catalog. StandsFor (messages_of catalog.entries) c)
+            (λ e. e ≡ NoMemory) }
+        ensures err { (fault : Error) → mo_fault bytes.now (options_of self.encoding true)
+            ≡ Some fault
             → IsErrAnd result (λ e. (e ≡ NoMemory) ⊎ (e ≡ fault)) }
-        ensures sound { IfOk result (λ catalog. (c : Messages) × entries bytes.now (options_of self.encoding true) c
+        ensures sound { IfOk result (λ catalog. (c : Messages)
+            × entries bytes.now (options_of self.encoding true) c
             × StandsFor (messages_of catalog.entries) c) }
-        ensures cause { MatchResult result (λ _. mo_fault bytes.now (options_of self.encoding true) ≡ None)
+        ensures cause { MatchResult result
+            (λ _. mo_fault bytes.now (options_of self.encoding true) ≡ None)
             (λ e. (e ≡ NoMemory) ⊎ (mo_fault bytes.now (options_of self.encoding true) ≡ Some e)) }
-        ensures buffer { IfOk result (λ catalog. IsInUtf8 bytes.now (options_of self.encoding true) → catalog.entries.buffer ≡ bytes.now) }
+        ensures buffer { IfOk result (λ catalog. IsInUtf8 bytes.now (options_of self.encoding true)
+            → catalog.entries.buffer ≡ bytes.now) }
         ensures plural { IfOk result (λ catalog. catalog.plural ≡ self.plural) }
     {
         let options = Options {

@@ -1,12 +1,12 @@
 -- The walk over one bundle at most.
-use Rattle.std.proofs.Common.{◌≡◌, ℕ, List, [], ◌∷◌, map, Bool, true, false, refl, sym, ap, ◌∙◌, cond, Option, Some, None}
+use Rattle.std.proofs.Common.{◌≡◌, ℕ, List, [], ◌∷◌, map, true, false, refl, sym, ap, ◌∙◌, cond, Option, Some, None}
 use Rattle.std.specs.Option.{option_or}
 use Rattle.gettext.specs.Messages.{form, key_of}
 use Rattle.writeable_core.specs.Texts.{same_text}
 use Rattle.localise.specs.declared.bundle.BundleText.{BundleText}
 use Rattle.localise.specs.declared.request.Request.{Request}
 use Rattle.localise.specs.Bundles.{KeepsMeaning, Localises}
-use Rattle.localise.specs.Chosen.{unknown, walk_of, Translation, form_in, numbered_from, translation_at, first_of, chosen, localised_by}
+use Rattle.localise.specs.Chosen.{unknown, walk_of, form_in, numbered_from, translation_at, first_of, chosen, localised_by}
 use Rattle.localise.specs.Meaning.{Meaning}
 
 or_none : {A : Type 0} (o : Option A) → o ≡ option_or (option_or o None) None

@@ -37,6 +37,7 @@ pub record Localises (texts : List BundleText) (kept : List Meaning) : Type 0 wh
   pub mean : AllMean texts bundles
   pub alike : (q : Request) → localised kept q ≡ localised bundles q
 
+-- a fault of bundle i, or else that of a later bundle
 abbrev pub or_else_refusal : ℕ → Option Error → Option RenderError → Option RenderError
 or_else_refusal i (Some e) next = Some (refusals.Bundle i (Mo e))
 or_else_refusal i None next = next
@@ -46,5 +47,6 @@ abbrev pub refusal_from : ℕ → List BundleText → Option RenderError
 refusal_from i [] = None
 refusal_from i (text ∷ texts) = or_else_refusal i (mo_fault text.mo plain_options) (refusal_from (suc i) texts)
 
+-- the first faulty bundle, the bundles being numbered from 0
 abbrev pub refusal : List BundleText → Option RenderError
 refusal = refusal_from 0

@@ -25,6 +25,7 @@ pub record Translation : Type 0 where
 abbrev pub form_in : Meaning → Request → List ℕ → Option (ℕ × List ℕ)
 form_in b q locale = if same_text b.locale locale then form b.messages (key_of q.context q.singular) q.count else None
 
+-- a form of bundle i
 abbrev pub numbered_from : ℕ → Option (ℕ × List ℕ) → Option Translation
 numbered_from i f = option_map (λ f. record { bundle = i; number = f.0; text = f.1 }) f
 
@@ -46,6 +47,7 @@ chosen bundles q = first_of (map (translation_at 0 bundles q) (walk_of q.tag))
 abbrev pub own_words : Request → List ℕ
 own_words q = if q.count == 1 then q.singular else q.plural
 
+-- what a request is given, where a bundle translates and where none does
 abbrev pub localised_by : Request → Option Translation → Localised
 localised_by q (Some t) = record { text = t.text; bundle = Some t.bundle; form_number = Some t.number }
 localised_by q None = record { text = own_words q; bundle = None; form_number = None }

@@ -3,6 +3,7 @@ use Rattle.std.specs.Prelude.{◌≡◌, ℕ, ◌&&◌, ◌||◌, ◌==◌, Bool
 use Rattle.std.specs.List.{list_all}
 use Rattle.localise.specs.declared.request.Request.{Request}
 
+-- the ASCII letters from a to z
 abbrev pub is_lower_case_letter : ℕ → Bool
 is_lower_case_letter c = nat_le 97 c && nat_le c 122
 

@@ -70,7 +70,8 @@ impl Bundle {
     pub(crate) fn read(alloc: Global, text: &BundleText) -> Result<Bundle, Error>
         ensures ok { IfOk result (λ bundle. KeepsMeaning text.now (meaning_of bundle)) }
         ensures accepted { IfOk result (λ _. mo_fault text.now.mo plain_options ≡ None) }
-        ensures err { IfErr result (λ e. e ≢ Error.NoMemory → mo_fault text.now.mo plain_options ≡ Some e) }
+        ensures err { IfErr result (λ e. e ≢ Error.NoMemory
+            → mo_fault text.now.mo plain_options ≡ Some e) }
     {
         let catalog = Catalog::parse_bytes(alloc, text.mo.as_slice())?;
         one_meaning();

@@ -53,7 +53,8 @@ impl Localiser {
 
     /// The form that the first locale of the walk gives that gives one.
     fn translation(&self, request: &Request) -> Option<Form<'_>>
-        ensures { numbered_from 0 (option_map (λ f. (f.number, chars f.text.now)) result) ≡ chosen (meanings self.now) request.now }
+        ensures { numbered_from 0 (option_map (λ f. (f.number, chars f.text.now)) result)
+            ≡ chosen (meanings self.now) request.now }
     {
         let Some(bundle) = &self.bundle else {
             return None;

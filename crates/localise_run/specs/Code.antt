@@ -3,6 +3,7 @@ use Rattle.std.specs.Prelude.{ℕ}
 use Rattle.localise_run.specs.declared.status.Status.{Status}
 use Rattle.localise_run.specs.declared.status.Status.TheVariants.{Done, BadWords, NotJson, Bundle, ReadFault, WriteFault, NoMemory, TooLong, NotBuilt}
 
+-- what `Status::code` answers
 abbrev pub code_of : Status → ℕ
 code_of Done = 0
 code_of BadWords = 2

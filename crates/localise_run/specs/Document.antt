@@ -18,9 +18,11 @@ checked p o = option_and_then (λ a. if p a then Some a else None) o
 
 -- ---- what stands in the place of a value
 
+-- a text, as its characters
 abbrev pub text_of : Data → Option (List ℕ)
 text_of d = option_map chars (as_str d)
 
+-- a text that is a plain tag
 abbrev pub tag_of : Data → Option (List ℕ)
 tag_of d = checked is_plain_tag (text_of d)
 
@@ -37,6 +39,7 @@ abbrev pub each_of : {A : Type 0} → (Data → Option A) → Items → Option (
 each_of f no_items = Some []
 each_of f (item d ds) = option_and_then (λ a. option_map (λ rest. a ∷ rest) (each_of f ds)) (f d)
 
+-- a list, each value of which is something
 abbrev pub list_of : {A : Type 0} → (Data → Option A) → Data → Option (List A)
 list_of f d = option_and_then (each_of f) (as_array d)
 
@@ -46,6 +49,7 @@ list_of f d = option_and_then (each_of f) (as_array d)
 abbrev pub member_of : {A : Type 0} → (Data → Option A) → List ℕ → Members → Option A
 member_of f name ms = option_and_then f (get_member name ms)
 
+-- a value that may be absent: Some None where it is
 abbrev pub optional : {A : Type 0} → (Data → Option A) → Option Data → Option (Option A)
 optional f None = Some None
 optional f (Some d) = option_map (λ a. Some a) (f d)
@@ -59,6 +63,7 @@ abbrev pub without : List ℕ → Members → Members
 without name no_members = no_members
 without name (member key d ms) = if bytes_eq name key then ms else member key d (without name ms)
 
+-- there is no member
 abbrev pub is_none_left : Members → Bool
 is_none_left no_members = true
 is_none_left (member key d ms) = false
@@ -74,6 +79,7 @@ only names ms said = if has_only names ms then said else None
 
 -- ---- bundles
 
+-- a bundle of its parts, where all are there
 abbrev pub bundle_from : Option (List ℕ) → Option (List ℕ) → Option BundleText
 bundle_from (Some tag) (Some mo) = Some (record { tag = tag; mo = mo })
 bundle_from (Some tag) None = None
@@ -85,15 +91,18 @@ bundle_in ms = only (codes "tag" ∷ codes "mo" ∷ []) ms (bundle_from
     (member_of tag_of (codes "tag") ms)
     (member_of bytes_of (codes "mo") ms))
 
+-- the bundle that a value is
 unfoldable pub bundle_of : Data → Option BundleText
 bundle_of d = option_and_then bundle_in (as_object d)
 
 -- ---- requests
 
+-- a request without a placeholder and items
 abbrev pub plain_request : List ℕ → Option (List ℕ) → List ℕ → List ℕ → ℕ → Request
 plain_request tag context singular plural count =
     record { tag = tag; context = context; singular = singular; plural = plural; count = count; placeholder = []; items = [] }
 
+-- a request of its parts, where all are there
 abbrev pub request_from : Option (List ℕ) → Option (Option (List ℕ)) → Option (List ℕ) → Option (List ℕ) → Option ℕ → Option Request
 request_from (Some tag) (Some context) (Some singular) (Some plural) (Some count) = Some (plain_request tag context singular plural count)
 request_from (Some tag) (Some context) (Some singular) (Some plural) None = None
@@ -111,6 +120,7 @@ request_in ms = only (codes "tag" ∷ codes "context" ∷ codes "singular" ∷ c
     (member_of text_of (codes "plural") ms)
     (member_of count_of (codes "count") ms))
 
+-- the request that a value is
 unfoldable pub request_of : Data → Option Request
 request_of d = option_and_then request_in (as_object d)
 
@@ -120,6 +130,7 @@ request_of d = option_and_then request_in (as_object d)
 abbrev pub is_few : List BundleText → Bool
 is_few bundles = nat_le (length bundles) 1
 
+-- a document of its parts, where both are there
 abbrev pub document_from : Option (List BundleText) → Option (List Request) → Option Contents
 document_from (Some bundles) (Some requests) = Some (record { bundles = bundles; requests = requests })
 document_from (Some bundles) None = None
@@ -131,6 +142,7 @@ document_in ms = only (codes "bundles" ∷ codes "requests" ∷ []) ms (document
     (checked is_few (member_of (list_of bundle_of) (codes "bundles") ms))
     (member_of (list_of request_of) (codes "requests") ms))
 
+-- the document that a value is
 unfoldable pub document_of : Data → Option Contents
 document_of d = option_and_then document_in (as_object d)
 

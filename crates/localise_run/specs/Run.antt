@@ -1,5 +1,5 @@
 -- What a run means: the one answer of a document, and the lines that are appended.
-use Rattle.std.specs.Prelude.{◌≡◌, ℕ, ◌≤◌, ◌⊎◌, List, [], ◌∷◌, ◌++◌, length, map, codes, Option, Some, None, IfSome, Bool, true, String, string_bytes, nat_le, if◌then◌else◌}
+use Rattle.std.specs.Prelude.{◌≡◌, ℕ, ◌≤◌, ◌⊎◌, List, [], ◌∷◌, ◌++◌, length, map, codes, Option, Some, None, IfSome, String, string_bytes, nat_le, if◌then◌else◌}
 use Rattle.std.specs.declared.alloc.Global.{Global}
 use Rattle.writeable_core.specs.Sink.{TookPrefix, Rose}
 use Rattle.localise.specs.declared.bundle.BundleText.{BundleText}
@@ -38,14 +38,17 @@ abbrev pub bundle_answer : RenderError → Status
 bundle_answer (refusals.Bundle i cause) = Bundle i cause
 bundle_answer refusals.NoMemory = NoMemory
 
+-- the answer to a document whose bundles have a refusal, or none
 abbrev pub refused_or_done : Option RenderError → Status
 refused_or_done None = Done
 refused_or_done (Some e) = bundle_answer e
 
+-- the answer to a value that is a document, or none
 abbrev pub answer_to_contents : Option Contents → Status
 answer_to_contents None = NotBuilt
 answer_to_contents (Some d) = refused_or_done (refusal d.bundles)
 
+-- the answer to bytes that have a value, or none
 abbrev pub answer_to_value : Option Data → Status
 answer_to_value None = NotJson
 answer_to_value (Some value) = answer_to_contents (document_of value)

@@ -29,27 +29,31 @@ pub fn run<S: Source, O: Sink, E: Sink>(
     // were appended.
     ensures headline { result ≡ Status.Done → IfSome (S.left source.old)
         (λ bytes. Renders bytes (λ lines. Appended O.took O.held out.old lines out.new)) }
-    ensures read_to_end { ComesAtEnd result → IsReadToEnd S.left S.ended S.faults source.old source.new }
+    ensures read_to_end { ComesAtEnd result
+        → IsReadToEnd S.left S.ended S.faults source.old source.new }
 
     // Which answer comes: the one that the bytes have, unless a source, an output or memory fails.
     ensures bad_words { (result ≡ Status.BadWords) ↔ (IsRender words.now → ⊥) }
     ensures exact { IsRender words.now → IfSome (S.left source.old)
         (λ bytes. (result ≡ answer_of bytes) ⊎ IsFailure result) }
-    ensures read_fault { result ≡ Status.ReadFault → Rose (S.faults source.old) (S.faults source.new) }
+    ensures read_fault { result ≡ Status.ReadFault
+        → Rose (S.faults source.old) (S.faults source.new) }
     ensures no_fault { result ≡ Status.TooLong → S.faults source.new ≡ S.faults source.old }
     ensures write_fault { result ≡ Status.WriteFault → Rose (O.faults out.old) (O.faults out.new) }
 
     // A document that nothing refuses is rendered, unless memory runs out.
     ensures complete { IsRender words.now → IfSome (S.left source.old) (λ bytes. (d : Contents)
         → length bytes ≤ most_bytes → IsDocument bytes d → refusal d.bundles ≡ None
-        → (Rose (S.faults source.old) (S.faults source.new) → ⊥) → (Rose (O.faults out.old) (O.faults out.new) → ⊥)
+        → (Rose (S.faults source.old) (S.faults source.new) → ⊥)
+        → (Rose (O.faults out.old) (O.faults out.new) → ⊥)
         → (result ≡ Status.Done) ⊎ (result ≡ Status.NoMemory)) }
 
     // What was appended where the answer isn't Done: nothing, or a front of the lines.
     ensures refused { IsRefusal result → out.new ≡ out.old }
     ensures fault_front { result ≡ Status.WriteFault → IfSome (S.left source.old)
         (λ bytes. Renders bytes (λ lines. TookPrefix O.took out.old lines out.new)) }
-    ensures memory_front { result ≡ Status.NoMemory → (out.new ≡ out.old) ⊎ IfSome (S.left source.old)
+    ensures memory_front { result ≡ Status.NoMemory → (out.new ≡ out.old)
+        ⊎ IfSome (S.left source.old)
         (λ bytes. Renders bytes (λ lines. TookPrefix O.took out.old lines out.new)) }
 
     // Words that are no command are answered before anything is read, and nothing is said of a run.
@@ -74,7 +78,8 @@ fn is_render(words: &[String]) -> bool
 fn render_bytes<O: Sink>(alloc: Global, bytes: Vec<u8>, out: &mut O) -> Result<(), Status>
     requires { length bytes.items ≤ most_bytes }
     ensures ok { OnOk result (Renders bytes.items (λ lines. O.took out.old lines out.new)) }
-    ensures err { IfErr result (FailsToRender O.took bytes.items (O.faults out.old) (O.faults out.new) out.old out.new) }
+    ensures err { IfErr result
+        (FailsToRender O.took bytes.items (O.faults out.old) (O.faults out.new) out.old out.new) }
 {
     let Document { bundles, requests } = document_of_bytes(alloc, bytes)?;
     let localiser = localiser_of(alloc, bundles)?;
@@ -100,7 +105,8 @@ fn localiser_of(alloc: Global, bundles: Vec<BundleText>) -> Result<Localiser, St
 
 fn render<S: Source, O: Sink>(alloc: Global, source: &mut S, out: &mut O) -> Status
     ensures { Outcome (S.left source.old) (S.faults source.old) (S.faults source.new)
-        (IsReadToEnd S.left S.ended S.faults source.old source.new) O.took (O.faults out.old) (O.faults out.new) out.old out.new result }
+        (IsReadToEnd S.left S.ended S.faults source.old source.new)
+        O.took (O.faults out.old) (O.faults out.new) out.old out.new result }
 {
     let bytes = match read_all(alloc, source) {
         Ok(bytes) => bytes,

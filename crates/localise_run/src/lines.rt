@@ -15,8 +15,10 @@ fn write_line<O: Sink>(
     out: &mut O,
 ) -> Result<(), SinkError>
     requires { IsPlain request.now }
-    ensures ok { OnOk result (O.took out.old (line_of (meanings localiser.now) request.now) out.new) }
-    ensures err { OnErr result (TookPrefix O.took out.old (line_of (meanings localiser.now) request.now) out.new) }
+    ensures ok { OnOk result
+        (O.took out.old (line_of (meanings localiser.now) request.now) out.new) }
+    ensures err { OnErr result
+        (TookPrefix O.took out.old (line_of (meanings localiser.now) request.now) out.new) }
     ensures cause { HasCause (O.faults out.old) (O.faults out.new) (O.takes_memory out.old) result }
 {
     localiser.find(request).write_to(out)?;
@@ -31,8 +33,10 @@ pub fn write_lines<O: Sink>(
     out: &mut O,
 ) -> Result<(), SinkError>
     requires { AllByRecursion IsPlain requests.now }
-    ensures ok { OnOk result (O.took out.old (output (meanings localiser.now) requests.now) out.new) }
-    ensures err { OnErr result (TookPrefix O.took out.old (output (meanings localiser.now) requests.now) out.new) }
+    ensures ok { OnOk result
+        (O.took out.old (output (meanings localiser.now) requests.now) out.new) }
+    ensures err { OnErr result
+        (TookPrefix O.took out.old (output (meanings localiser.now) requests.now) out.new) }
     ensures cause { HasCause (O.faults out.old) (O.faults out.new) (O.takes_memory out.old) result }
 {
     for request in requests {

@@ -20,8 +20,10 @@ pub fn read_all<S: Source>(alloc: Global, source: &mut S) -> Result<Vec<u8>, Rea
     ensures all { IfOk result (λ bytes. IfSome (S.left source.old) (λ told. bytes.items ≡ told)) }
     ensures within { IfOk result (λ bytes. length bytes.items ≤ most_bytes) }
     ensures read_to_end { OnOk result (IsReadToEnd S.left S.ended S.faults source.old source.new) }
-    ensures err { IfErr result (IsReadError most_bytes (S.faults source.old) (S.faults source.new) (S.left source.old)) }
-    ensures no_fault { IsErrOf result ReadError.TooLong → S.faults source.new ≡ S.faults source.old }
+    ensures err { IfErr result (IsReadError most_bytes (S.faults source.old) (S.faults source.new)
+        (S.left source.old)) }
+    ensures no_fault { IsErrOf result ReadError.TooLong
+        → S.faults source.new ≡ S.faults source.old }
     ensures later { S.faults source.old ≤ S.faults source.new }
 {
     let mut piece = zeros(alloc, PIECE)?;
@@ -44,11 +46,14 @@ fn read_turns<S: Source>(
 ) -> Result<Vec<u8>, ReadError>
     requires room { 0 < length piece.old }
     requires small { most + 2 < 2 ^ 64 }
-    ensures all { IfOk result (λ bytes. Consumes (S.left source.old) (S.left source.new) bytes.items) }
+    ensures all { IfOk result (λ bytes. Consumes (S.left source.old)
+        (S.left source.new) bytes.items) }
     ensures within { IfOk result (λ bytes. length bytes.items ≤ most) }
     ensures read_to_end { OnOk result (IsReadToEnd S.left S.ended S.faults source.old source.new) }
-    ensures err { IfErr result (IsReadError most (S.faults source.old) (S.faults source.new) (S.left source.old)) }
-    ensures no_fault { IsErrOf result ReadError.TooLong → S.faults source.new ≡ S.faults source.old }
+    ensures err { IfErr result (IsReadError most (S.faults source.old) (S.faults source.new)
+        (S.left source.old)) }
+    ensures no_fault { IsErrOf result ReadError.TooLong
+        → S.faults source.new ≡ S.faults source.old }
     ensures later { S.faults source.old ≤ S.faults source.new }
 {
     let mut bytes = Vec::new(alloc);
