@@ -38,15 +38,15 @@ abbrev dashed : List ℕ → Bool
 dashed [] = true
 dashed (c ∷ text) = is_dash c
 
--- a character in front that is no `-`
+-- a first character that is no `-` stands before it
 before-cons : (c : ℕ) (t : List ℕ) → is_dash c ≡ false → before_dash (c ∷ t) ≡ c ∷ before_dash t
 before-cons c t other = grind (arith, nat_tests)
 
--- nor begins the rest
+-- and not in the rest
 from-cons : (c : ℕ) (t : List ℕ) → is_dash c ≡ false → from_dash (c ∷ t) ≡ from_dash t
 from-cons c t other = grind (arith, nat_tests)
 
--- a text without `-` in front of one that begins with `-` stands before it
+-- a text without `-` stands before one that begins with `-`
 before-append : (s t : List ℕ) → no_dash s ≡ true → dashed t ≡ true → before_dash (s ++ t) ≡ s
 before-append [] [] plain more = refl
 before-append [] (c ∷ t) plain more = grind (arith, nat_tests)
@@ -55,7 +55,7 @@ before-append (c ∷ s) t plain more =
     let tail : no_dash s ≡ true = grind (arith, nat_tests) in
     before-cons c (s ++ t) head ∙ ap (λ l. c ∷ l) (before-append s t tail more)
 
--- and the other is the rest
+-- which is the rest
 from-append : (s t : List ℕ) → no_dash s ≡ true → dashed t ≡ true → from_dash (s ++ t) ≡ t
 from-append [] [] plain more = refl
 from-append [] (c ∷ t) plain more = grind (arith, nat_tests)
@@ -70,7 +70,7 @@ no_leading [] other = refl
 no_leading (c ∷ text) other =
     let apart : c ≢ 45 = λ e. other text (ap (λ b. b ∷ text) e) in grind (arith, nat_tests)
 
--- nor anything else that is behind one
+-- and all of it is behind
 pub all_behind : (text : List ℕ) → ((rest : List ℕ) → text ≢ 45 ∷ rest) → text ≡ behind text
 all_behind [] other = refl
 all_behind (c ∷ text) other =
@@ -86,7 +86,7 @@ module _ (s t : List ℕ) (plain : no_dash s ≡ true) (more : dashed t ≡ true
   behind-marked : behind ((codes "-" ++ s) ++ t) ≡ t
   behind-marked = from-append s t plain more
 
--- a subtag behind its `-` begins with `-`, and no subtag leaves the text
+-- with a subtag in front, or none, such a text still begins with `-` or is empty
 dashed-marked : (o : Option (List ℕ)) (t : List ℕ) → dashed t ≡ true
     → dashed (marked (codes "-") o ++ t) ≡ true
 dashed-marked None t more = more
@@ -243,7 +243,7 @@ dashed-subdivision l = go l.subdivision
 
 -- a shape that neither `u` nor nothing has
 module _ (is : List ℕ → Bool) (nothing : is [] ≡ false) (mark : is (codes "u") ≡ false) where
-  -- does not lead a subdivision's part
+  -- it does not lead the part of a subdivision
   leading-subdivision : (o : Option (List ℕ)) → is (leading (marked (codes "-u-sd-") o)) ≡ false
   leading-subdivision None = nothing
   leading-subdivision (Some s) = mark
@@ -251,7 +251,7 @@ module _ (is : List ℕ → Bool) (nothing : is [] ≡ false) (mark : is (codes 
 -- a shape that the text does not lead with, nor any subtag before it
 module _ (is shape : List ℕ → Bool) (plain : (s : List ℕ) → shape s ≡ true → no_dash s ≡ true)
     (apart : (s : List ℕ) → shape s ≡ true → is s ≡ false) where
-  -- nor does it behind another subtag
+  -- it does not lead the text behind such a subtag
   leading-other : (o : Option (List ℕ)) (t : List ℕ) → IfSome o (λ s. shape s ≡ true)
       → dashed t ≡ true
       → is (leading t) ≡ false → is (leading (marked (codes "-") o ++ t)) ≡ false

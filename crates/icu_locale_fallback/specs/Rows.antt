@@ -9,8 +9,9 @@ use Rattle.icu_locale_fallback.specs.Cells.{PrintsAs}
 use Rattle.icu_locale_fallback.specs.Triple.{Triple, triple_cmp, language_alone}
 
 -- What the cells of a row say, as relations between the row and what it says: the subtags stand
--- in canonical case (UTS 35, Unicode locale identifiers). A row of `likely_language` is
--- language, script, region; its key is the language.
+-- in canonical case (UTS 35, Unicode locale identifiers).
+
+-- A row of `likely_language` is language, script, region; its key is the language.
 abbrev pub LanguageKey : TextRow → Triple → Type 0
 LanguageKey row key = IsLanguage row.first × (key ≡ language_alone row.first)
 

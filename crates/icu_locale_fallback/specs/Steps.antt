@@ -104,22 +104,21 @@ language_rules F first r =
     (without_subdivision r ∷ without_variant r ∷ to_parent F r ∷ without_region F first r ∷ [])
     (to_unknown_language r)
 
--- the region priority: language and script go, and where there is a region what was kept comes
--- back
+-- language and script go, and where there is a region what was kept comes back
 abbrev pub without_language : Reached → Option Reached
 without_language r =
     if has_language r.locale || is_some r.locale.script
     then Some (to_unknown_language (if is_some r.locale.region then restored r else r))
     else None
 
--- its rules
+-- the region priority
 abbrev pub region_rules : Reached → Reached
 region_rules r =
     first_of (without_subdivision r ∷ without_variant r ∷ without_language r ∷ [])
     (without_last_region r)
 
--- the script priority: a script that the language most likely has goes, and the region that was
--- kept comes back with what was kept beside it
+-- a script that the language most likely has goes, and the region that was kept comes back with
+-- what was kept beside it
 abbrev pub without_likely_script : Tables → Reached → Option Reached
 without_likely_script F r =
     if has_language r.locale && (is_some r.locale.script
@@ -140,8 +139,7 @@ without_likely_script F r =
     else without_script r)
     else None
 
--- the language goes, and the first script is taken; where there is one, the kept variant comes
--- back
+-- the language goes for the first script; where there is one, the kept variant comes back
 abbrev pub to_first_script : Option (List ℕ) → Reached → Option Reached
 to_first_script first r =
     if has_language r.locale

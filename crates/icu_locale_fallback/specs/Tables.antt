@@ -27,7 +27,7 @@ abbrev pub no_likely_subtags : LikelySubtags
 no_likely_subtags =
     record { language = map.empty; language_script = map.empty; language_region = map.empty }
 
--- of all tables
+-- all tables with no row
 abbrev pub no_tables : Tables
 no_tables = record { likely = no_likely_subtags; parents = map.empty }
 
@@ -51,7 +51,7 @@ likely_subtags_code =
     (λ p. record { language = p.0; language_script = p.1.0; language_region = p.1.1 })
     (λ _. refl)
 
--- all tables
+-- the tables of a fallbacker
 abbrev pub tables_code : Coded Tables
 tables_code =
     code_by (LikelySubtags × map.FinMap triple_cmp Triple)

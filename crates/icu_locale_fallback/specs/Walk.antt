@@ -1,6 +1,5 @@
--- The walk from a locale to the unknown one in the language priority (UTS 35, locale
--- inheritance and matching, as
--- `icu_locale_fallback` applies it), as a list of locales.
+-- The walk from a locale to the unknown one in the language priority, as a list of locales
+-- (UTS 35, locale inheritance and matching, as `icu_locale_fallback` applies it).
 use Rattle.std.specs.Prelude.{◌≡◌, ℕ, suc, zero, ◌+◌, ◌-◌, ◌*◌, ◌<◌, ◌≤◌, List, Option, Some, None, Bool, false, true, ◌&&◌, ◌⊎◌, is_some, is_none, if◌then◌else◌}
 use Rattle.std.specs.FinMap as map
 use Rattle.icu_locale_core.specs.Equality.{same_text, same_subtag}
