@@ -13,6 +13,8 @@ pub enum Wrong<'a> {
     Call,
     /// This argument isn't what is said.
     Argument(&'a Value, &'static str),
+    /// This argument has no member of that name.
+    Missing(&'a Value, &'static str),
     /// This argument is to make a value, and makes none for the reason that is said.
     Refused(&'a Value, &'static str),
 }
@@ -97,4 +99,20 @@ pub fn list(value: &Value) -> Result<&[Value], Wrong<'_>> {
 
 pub fn object(value: &Value) -> Result<&Map<String, Value>, Wrong<'_>> {
     value.as_object().ok_or(Wrong::Argument(value, "an object"))
+}
+
+/// The member of that name.
+pub fn field<'a>(value: &'a Value, name: &'static str) -> Result<&'a Value, Wrong<'a>> {
+    object(value)?
+        .get(name)
+        .ok_or(Wrong::Missing(value, name))
+}
+
+/// The name and the value of the only member.
+pub fn member(value: &Value) -> Result<(&str, &Value), Wrong<'_>> {
+    let mut members = object(value)?.iter();
+    match (members.next(), members.next()) {
+        (Some((name, inner)), None) => Ok((name.as_str(), inner)),
+        _ => Err(Wrong::Argument(value, "an object of one member")),
+    }
 }

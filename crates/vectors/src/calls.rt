@@ -3,7 +3,10 @@
 use crate::answers;
 use crate::answers::Answer;
 use crate::arguments::Wrong;
-use crate::{hints, texts};
+use crate::{
+    catalogs, expressions, fallback, hints, locales, localising, metadata, program, sinks, sources, tags,
+    texts, tries,
+};
 use serde_json::Value;
 use std::alloc::{AllocError, Global};
 
@@ -45,6 +48,9 @@ fn answer_call(alloc: Global, call: &[Value]) -> Result<Value, AllocError> {
         Err(Wrong::Argument(argument, wanted)) => {
             wrong(alloc, format!(in alloc; "{wanted} is wanted in place of {argument}")?)
         }
+        Err(Wrong::Missing(argument, name)) => {
+            wrong(alloc, format!(in alloc; "{argument} has no member {name}")?)
+        }
         Err(Wrong::Refused(argument, cause)) => {
             wrong(alloc, format!(in alloc; "{argument} makes no value: {cause}")?)
         }
@@ -60,15 +66,37 @@ fn answer<'a>(alloc: Global, path: &str, arguments: &'a [Value]) -> Answer<'a> {
     let (library, call) = path.split_once("::").ok_or(Wrong::Call)?;
     match library {
         "writeable" => writeable_call(alloc, call, arguments),
+        "tinystr" => tags::answer(alloc, call, arguments),
+        "icu_locale_core" => locales::answer(alloc, call, arguments),
+        "icu_locale_fallback" => fallback::answer(alloc, call, arguments),
+        "reading" => sources::answer_reading(alloc, call, arguments),
+        "gettext" => gettext_call(alloc, call, arguments),
+        "localise" => localising::answer(alloc, call, arguments),
+        "localise_run" => program::answer(alloc, call, arguments),
         _ => Err(Wrong::Call),
     }
 }
 
+/// A call of `writeable`: by a type with calls of its own, or by the value that it is asked of.
 fn writeable_call<'a>(alloc: Global, call: &str, arguments: &'a [Value]) -> Answer<'a> {
-    match (call, call.split_once("::"), arguments) {
-        (_, Some(("LengthHint", call)), _) => hints::answer(alloc, call, arguments),
-        ("sum_hints" | "sum_lengths", _, [terms]) => hints::answer_sum(alloc, call, terms),
-        (_, _, [value, others @ ..]) => texts::answer(alloc, call, value, others),
+    match (call.split_once("::"), arguments) {
+        (Some(("LengthHint", call)), _) => hints::answer(alloc, call, arguments),
+        (Some(("TryWriteable", call)), [value]) => tries::answer(alloc, call, value),
+        (Some(("SliceSource" | "ScriptSource" | "SourceFault", _)), _) => {
+            sources::answer(alloc, call, arguments)
+        }
+        (Some((_, "push" | "text")), _) => sinks::answer(alloc, call, arguments),
+        (None, [terms]) => hints::answer_sum(alloc, call, terms),
+        (_, [value, others @ ..]) => texts::answer(alloc, call, value, others),
         _ => Err(Wrong::Call),
+    }
+}
+
+fn gettext_call<'a>(alloc: Global, call: &str, arguments: &'a [Value]) -> Answer<'a> {
+    match call.split_once("::") {
+        Some(("Catalog" | "ParseOptions", _)) => catalogs::answer(alloc, call, arguments),
+        Some(("Ast" | "Resolver", _)) => expressions::answer(alloc, call, arguments),
+        _ if call == "default_resolver" => expressions::answer(alloc, call, arguments),
+        _ => metadata::answer(alloc, call, arguments),
     }
 }

@@ -13,14 +13,28 @@
 //! - `calls`: which module knows a library's calls, and what a line is.
 //! - `arguments`: reading an argument, and what is wrong with a line that isn't a call.
 //! - `answers`: making an answer.
-//! - `texts`, `hints`: `writeable`'s values and hints.
+//! - `texts`, `tries`, `hints`, `sinks`, `sources`: the calls of `writeable`.
+//! - `tags`, `locales`, `fallback`: those of `tinystr`, `icu_locale_core` and `icu_locale_fallback`.
+//! - `catalogs`, `metadata`, `expressions`: those of `gettext`.
+//! - `localising`, `program`: those of `localise` and `localise_run`.
 #![tactic(auto)]
 
 mod answers;
 mod arguments;
 mod calls;
+mod catalogs;
+mod expressions;
+mod fallback;
 mod hints;
+mod localising;
+mod locales;
+mod metadata;
+mod program;
+mod sinks;
+mod sources;
+mod tags;
 mod texts;
+mod tries;
 
 use std::io;
 use std::io::{BufRead, BufReader, BufWriter, Write};

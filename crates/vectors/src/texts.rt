@@ -1,20 +1,28 @@
 //! Calls of values that write a text.
 //!
 //! A value is a text, which is a `Text`, or an object of one member: its type, and what it is made
-//! of. Items of `Concat` and `WithPart` are texts, characters, numbers of 64 bits and texts in a part.
+//! of. A number is the text of its digits. Items of `Concat` and `WithPart` are texts, `{"char": ..}`,
+//! `{"u64": ..}` and `{"Part": [category, value, text]}`. `lower` is the text in ASCII lower case,
+//! lent where it has no other letters.
 
 use crate::answers;
 use crate::answers::Answer;
-use crate::arguments::{Wrong, bytes, character, list, text, wide};
+use crate::arguments::{Wrong, bytes, character, list, member, text, wide};
+use crate::sinks;
+use crate::tries::attempt;
 use either::{Either, Left, Right};
 use serde_json::Value;
 use std::alloc::{AllocError, Global};
 use std::borrow::CowStr;
 use std::boxed::BoxedStr;
 use std::rc::{Rc, RcStr};
-use writeable::adapters::{Concat, WithPart};
+use writeable::adapters::{
+    Concat, CoreWriteAsPartsWrite, LossyWrap, TryWriteableInfallibleAsWriteable, WithPart,
+    WriteableAsTryWriteableInfallible,
+};
 use writeable::{
-    OwnedText, Part, Text, Writeable, cmp_str, cmp_utf8, concat_writeable, to_string_or_borrow,
+    CountSink, FixedSink, OwnedText, Part, StringSink, Text, Writeable, cmp_str, cmp_utf8,
+    concat_writeable, to_string_or_borrow,
 };
 
 /// What is asked of a value.
@@ -27,6 +35,9 @@ enum Question<'a> {
     AgainstText(&'a str),
     AgainstBytes(Vec<u8>),
     BorrowFrom(Vec<u8>),
+    WithoutParts,
+    CountedBytes,
+    Fixed,
 }
 
 /// A call whose first argument is a value that writes a text, by the call's path.
@@ -44,6 +55,9 @@ pub fn answer<'a>(
         ("cmp_str", [other]) => Question::AgainstText(text(other)?),
         ("cmp_utf8", [other]) => Question::AgainstBytes(bytes(alloc, other)?),
         ("to_string_or_borrow", [other]) => Question::BorrowFrom(bytes(alloc, other)?),
+        ("adapters::CoreWriteAsPartsWrite", []) => Question::WithoutParts,
+        ("CountSink::bytes", []) => Question::CountedBytes,
+        ("FixedSink<64>::as_str", []) => Question::Fixed,
         _ => return Err(Wrong::Call),
     };
     question.of(alloc, value)
@@ -60,22 +74,24 @@ impl Question<'_> {
             Question::AgainstText(other) => answers::ordering(alloc, cmp_str(value, other)),
             Question::AgainstBytes(other) => answers::ordering(alloc, cmp_utf8(value, other)),
             Question::BorrowFrom(other) => string(alloc, to_string_or_borrow(alloc, value, other)?),
+            Question::WithoutParts => without_parts(alloc, value),
+            Question::CountedBytes => Ok(counted(value)),
+            Question::Fixed => fixed(alloc, value),
         }
     }
 
     /// The answer of the value that an argument makes.
     fn of<'a>(&self, alloc: Global, value: &'a Value) -> Answer<'a> {
-        let Value::Object(members) = value else {
-            return Ok(self.ask(alloc, &item(value)?)?);
-        };
-        let Some((name, inner)) = members.iter().next() else {
-            return Err(Wrong::Argument(value, "an object of one member"));
-        };
-        match name.as_str() {
+        if value.is_string() {
+            return Ok(self.ask(alloc, &Text(text(value)?))?);
+        }
+        let (name, inner) = member(value)?;
+        match name {
             "Concat" => self.of_items(alloc, inner),
             "WithPart" => self.of_part(alloc, inner),
-            "char" | "u64" | "Part" => Ok(self.ask(alloc, &item(value)?)?),
-            name => match self.of_number(alloc, name, inner) {
+            "char" | "Part" => Ok(self.ask(alloc, &item(value)?)?),
+            "LossyWrap" => Ok(self.ask(alloc, &LossyWrap(attempt(inner)?))?),
+            _ => match self.of_number(alloc, name, inner) {
                 Err(Wrong::Call) => self.of_text(alloc, name, inner),
                 answer => answer,
             },
@@ -94,6 +110,13 @@ impl Question<'_> {
             "CowStr::Owned" => self.ask(alloc, &CowStr::Owned(String::from_str(alloc, inner)?)),
             "Box" => self.ask(alloc, &Box::new(alloc, Text(inner))?),
             "Rc" => self.ask(alloc, &Rc::new(alloc, Text(inner))?),
+            "Either::Left" => self.ask(alloc, &Either::<Text, u8>::Left(Text(inner))),
+            "Either::Right" => self.ask(alloc, &Either::<Text, u8>::Right(wide(value)?)),
+            "lower" => self.ask(alloc, &lower(alloc, inner)?),
+            "TryWriteableInfallibleAsWriteable" => {
+                let infallible = WriteableAsTryWriteableInfallible(Text(inner));
+                self.ask(alloc, &TryWriteableInfallibleAsWriteable(infallible))
+            }
             _ => return Err(Wrong::Argument(value, "the text of a known type")),
         };
         Ok(answer?)
@@ -149,28 +172,55 @@ fn string(alloc: Global, written: CowStr<'_>) -> Result<Value, AllocError> {
     answers::object(alloc, [("text", text), ("borrowed", Value::Bool(borrowed))])
 }
 
+/// The text that arrives at a sink that drops the marks of parts.
+fn without_parts<W: Writeable>(alloc: Global, value: &W) -> Result<Value, AllocError> {
+    let mut sink = CoreWriteAsPartsWrite(StringSink::new(alloc));
+    value.write_to_parts(&mut sink).map_err(|_| AllocError)?;
+    Ok(Value::String(sink.0.into_string()))
+}
+
+/// How many bytes arrive at a sink that counts them.
+fn counted<W: Writeable>(value: &W) -> Value {
+    let mut sink = CountSink::new();
+    let _ = value.write_to(&mut sink);
+    answers::number(sink.bytes())
+}
+
+/// The text that arrives at a sink of 64 bytes.
+fn fixed<W: Writeable>(alloc: Global, value: &W) -> Result<Value, AllocError> {
+    let mut sink = FixedSink::<64>::new();
+    match value.write_to(&mut sink) {
+        Ok(()) => answers::text(alloc, sink.as_str()),
+        Err(error) => answers::refused(alloc, sinks::name(error)),
+    }
+}
+
+/// The text in ASCII lower case. It is lent where it has no other letters.
+fn lower(
+    alloc: Global,
+    text: &str,
+) -> Result<Either<Text<'_>, Concat<OwnedText, Text<'_>>>, AllocError> {
+    let lower = text
+        .bytes()
+        .all(|b| b.is_ascii_lowercase() || b.is_ascii_whitespace());
+    if lower {
+        return Ok(Left(Text(text)));
+    }
+    let copy = text.to_ascii_lowercase(alloc)?;
+    Ok(Right(Concat(OwnedText::from_string(copy), Text(""))))
+}
+
 /// A text, a character, a number, or a text in a part.
 type Item<'a> = Either<Text<'a>, Either<char, Either<u64, WithPart<Text<'a>>>>>;
 
 fn item(value: &Value) -> Result<Item<'_>, Wrong<'_>> {
-    let Value::Object(members) = value else {
-        return Ok(Left(Text(text(value)?)));
-    };
-    match members.iter().next() {
-        Some((name, inner)) => named_item(value, name.as_str(), inner),
-        None => Err(Wrong::Argument(value, "an item")),
+    if let Value::String(text) = value {
+        return Ok(Left(Text(text.as_str())));
     }
-}
-
-fn named_item<'a>(
-    value: &'a Value,
-    name: &str,
-    inner: &'a Value,
-) -> Result<Item<'a>, Wrong<'a>> {
-    match name {
-        "char" => Ok(Right(Left(character(inner)?))),
-        "u64" => Ok(Right(Right(Left(wide(inner)?)))),
-        "Part" => Ok(Right(Right(Right(text_in_part(inner)?)))),
+    match member(value)? {
+        ("char", inner) => Ok(Right(Left(character(inner)?))),
+        ("u64", inner) => Ok(Right(Right(Left(wide(inner)?)))),
+        ("Part", inner) => Ok(Right(Right(Right(text_in_part(inner)?)))),
         _ => Err(Wrong::Argument(value, "a text, a char, an u64 or a Part")),
     }
 }

@@ -1,0 +1,81 @@
+//! Calls of plural expressions, which are their text, and of resolvers.
+//!
+//! A tree is `"n"`, a number, or an object of one member: `Not` and a tree, or the name of an
+//! operator and the trees that it stands between. A resolver is an expression; null, which is the
+//! default; or `{"Function": "n<2?0:1"}`.
+
+use crate::answers;
+use crate::answers::Answer;
+use crate::arguments::{Wrong, number, text};
+use crate::metadata;
+use gettext::{Ast, Operator, PluralFunction, Resolver, default_resolver};
+use serde_json::Value;
+use std::alloc::{AllocError, Global};
+
+/// A call by its path.
+pub fn answer<'a>(alloc: Global, call: &str, arguments: &'a [Value]) -> Answer<'a> {
+    match (call, arguments) {
+        ("Ast::parse", [expression]) => match Ast::parse(alloc, text(expression)?) {
+            Ok(ast) => Ok(tree(alloc, &ast)?),
+            Err(error) => metadata::refused(alloc, error),
+        },
+        ("Resolver::resolve", [given, n]) => {
+            let resolver = resolver(alloc, given)?;
+            Ok(answers::optional_size(resolver.resolve(number(n)?)))
+        }
+        ("default_resolver", [n]) => Ok(answers::size(default_resolver(number(n)?))),
+        _ => Err(Wrong::Call),
+    }
+}
+
+fn resolver<'a>(alloc: Global, given: &'a Value) -> Result<Resolver, Wrong<'a>> {
+    match given {
+        Value::Null => Ok(Resolver::Default),
+        Value::Object(_) => Ok(Resolver::Function(PluralFunction::new(two_forms))),
+        _ => match Ast::parse(alloc, text(given)?) {
+            Ok(ast) => Ok(Resolver::Expr(ast)),
+            Err(error) => Err(metadata::unread(given, error)),
+        },
+    }
+}
+
+/// Two forms, of which 0 and 1 have the first.
+fn two_forms(n: u64) -> usize {
+    if n < 2 { 0 } else { 1 }
+}
+
+fn tree(alloc: Global, ast: &Ast) -> Result<Value, AllocError> {
+    match ast {
+        Ast::N => answers::text(alloc, "n"),
+        Ast::Integer(integer) => Ok(answers::number(*integer)),
+        Ast::Not(inner) => answers::object(alloc, [("Not", tree(alloc, inner)?)]),
+        Ast::Op(operator, left, right) => {
+            let sides = answers::list(alloc, [tree(alloc, left)?, tree(alloc, right)?])?;
+            answers::object(alloc, [(operator_name(*operator), sides)])
+        }
+        Ast::Ternary(condition, first, second) => {
+            let condition = tree(alloc, condition)?;
+            let (first, second) = (tree(alloc, first)?, tree(alloc, second)?);
+            let parts = answers::list(alloc, [condition, first, second])?;
+            answers::object(alloc, [("Ternary", parts)])
+        }
+    }
+}
+
+fn operator_name(operator: Operator) -> &'static str {
+    match operator {
+        Operator::Equal => "Equal",
+        Operator::NotEqual => "NotEqual",
+        Operator::GreaterOrEqual => "GreaterOrEqual",
+        Operator::SmallerOrEqual => "SmallerOrEqual",
+        Operator::Greater => "Greater",
+        Operator::Smaller => "Smaller",
+        Operator::And => "And",
+        Operator::Or => "Or",
+        Operator::Modulo => "Modulo",
+        Operator::Add => "Add",
+        Operator::Subtract => "Subtract",
+        Operator::Multiply => "Multiply",
+        Operator::Divide => "Divide",
+    }
+}

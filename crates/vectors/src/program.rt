@@ -1,0 +1,91 @@
+//! Calls of the program: its words, a document, and the numbers of the pushes at which the output
+//! fails, if there are any.
+//!
+//! A document is a text; an object with the member `most`, which is a source (see `sources`); or any
+//! other value, which is its own text. A run is answered by its status and exit code, and by what
+//! the output and the error sink took.
+
+use crate::answers;
+use crate::answers::Answer;
+use crate::arguments::{Wrong, list, text};
+use crate::localising::refused_bundle;
+use crate::sinks::numbers;
+use crate::sources::{Script, script};
+use localise_run::{Status, run};
+use serde_json::Value;
+use std::alloc::{AllocError, Global};
+use writeable::{ScriptSink, StringSink};
+
+/// A call of `localise_run`, by its path.
+pub fn answer<'a>(alloc: Global, call: &str, arguments: &'a [Value]) -> Answer<'a> {
+    match (call, arguments) {
+        ("run", [words, given]) => {
+            let words = texts(alloc, words)?;
+            run_into(alloc, &words, &document(alloc, given)?, Vec::new(alloc))
+        }
+        ("run", [words, given, failing]) => {
+            let words = texts(alloc, words)?;
+            let failing = numbers(alloc, failing)?;
+            run_into(alloc, &words, &document(alloc, given)?, failing)
+        }
+        _ => Err(Wrong::Call),
+    }
+}
+
+fn texts<'a>(alloc: Global, given: &'a Value) -> Result<Vec<String>, Wrong<'a>> {
+    let mut texts = Vec::new(alloc);
+    for each in list(given)? {
+        texts.push(String::from_str(alloc, text(each)?)?)?;
+    }
+    Ok(texts)
+}
+
+fn document<'a>(alloc: Global, given: &'a Value) -> Result<Script, Wrong<'a>> {
+    match given {
+        Value::String(text) => Ok(Script::of_text(alloc, text.as_str())?),
+        _ if given.get("most").is_some() => script(alloc, given),
+        _ => Ok(Script::of_text(alloc, given.to_string(alloc)?.as_str())?),
+    }
+}
+
+fn run_into<'a>(
+    alloc: Global,
+    words: &[String],
+    document: &Script,
+    failing: Vec<u64>,
+) -> Answer<'a> {
+    let mut out = ScriptSink::new(alloc, failing);
+    let mut err = StringSink::new(alloc);
+    let status = run(alloc, words, &mut document.source(), &mut out, &mut err);
+    let output = Value::String(out.into_string());
+    let errors = Value::String(err.into_string());
+    let code = answers::number(u64::from(status.code()));
+    let status = status_answer(alloc, status)?;
+    Ok(answers::object(
+        alloc,
+        [
+            ("status", status),
+            ("code", code),
+            ("output", output),
+            ("errors", errors),
+        ],
+    )?)
+}
+
+/// The status's name, with the bundle and its cause where one is refused.
+fn status_answer(alloc: Global, status: Status) -> Result<Value, AllocError> {
+    let name = match status {
+        Status::Bundle(bundle, error) => {
+            return refused_bundle(alloc, bundle, error);
+        }
+        Status::Done => "Done",
+        Status::BadWords => "BadWords",
+        Status::NotJson => "NotJson",
+        Status::ReadFault => "ReadFault",
+        Status::WriteFault => "WriteFault",
+        Status::NoMemory => "NoMemory",
+        Status::TooLong => "TooLong",
+        Status::NotBuilt => "NotBuilt",
+    };
+    answers::text(alloc, name)
+}
