@@ -51,16 +51,32 @@ pub fn ordering(alloc: Global, ordering: Ordering) -> Result<Value, AllocError> 
     text(alloc, name)
 }
 
-/// The object with these members.
-pub fn object<const N: usize>(
+/// An object, made member by member.
+#[derive(Drop)]
+pub struct Object {
     alloc: Global,
-    members: [(&str, Value); N],
-) -> Result<Value, AllocError> {
-    let mut object = Map::new(alloc);
-    for (name, value) in members {
-        object.insert(String::from_str(alloc, name)?, value)?;
+    members: Map<String, Value>,
+}
+
+impl Object {
+    /// An object with no member.
+    pub fn new(alloc: Global) -> Object {
+        Object {
+            alloc,
+            members: Map::new(alloc),
+        }
     }
-    Ok(Value::Object(object))
+
+    /// The object with one more member.
+    pub fn with(mut self, name: &str, value: Value) -> Result<Object, AllocError> {
+        let name = String::from_str(self.alloc, name)?;
+        self.members.insert(name, value)?;
+        Ok(self)
+    }
+
+    pub fn value(self) -> Value {
+        Value::Object(self.members)
+    }
 }
 
 /// The list of these items.
@@ -70,7 +86,11 @@ pub fn list<const N: usize>(alloc: Global, items: [Value; N]) -> Result<Value, A
 
 /// A refusal by its name.
 pub fn refused(alloc: Global, name: &str) -> Result<Value, AllocError> {
-    object(alloc, [("refused", text(alloc, name)?)])
+    Ok(
+        Object::new(alloc)
+            .with("refused", text(alloc, name)?)?
+            .value(),
+    )
 }
 
 /// A refusal by its name, with its numbers.
@@ -84,7 +104,12 @@ pub fn refused_at<const N: usize>(
         numbers.push(size(number))?;
     }
     let name = text(alloc, name)?;
-    object(alloc, [("refused", name), ("at", Value::Array(numbers))])
+    Ok(
+        Object::new(alloc)
+            .with("refused", name)?
+            .with("at", Value::Array(numbers))?
+            .value(),
+    )
 }
 
 /// The bounds, the upper one null where there is none.
@@ -108,13 +133,12 @@ pub fn written<W: Writeable>(alloc: Global, value: &W) -> Result<Value, AllocErr
     let mut sink = StringSink::new(alloc);
     value.write_to(&mut sink).map_err(|_| AllocError)?;
     let parts = writeable_to_parts_for_test(alloc, value)?;
-    object(
-        alloc,
-        [
-            ("text", Value::String(sink.into_string())),
-            ("parts", spans(alloc, parts.spans())?),
-            ("hint", hint(alloc, value.writeable_length_hint())?),
-            ("borrows", Value::Bool(value.writeable_borrow().is_some())),
-        ],
+    Ok(
+        Object::new(alloc)
+            .with("text", Value::String(sink.into_string()))?
+            .with("parts", spans(alloc, parts.spans())?)?
+            .with("hint", hint(alloc, value.writeable_length_hint())?)?
+            .with("borrows", Value::Bool(value.writeable_borrow().is_some()))?
+            .value(),
     )
 }

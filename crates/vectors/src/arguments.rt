@@ -76,9 +76,7 @@ pub fn wide<T: FromStr + Drop>(value: &Value) -> Result<T, Wrong<'_>>
 where
     T::Err: Drop,
 {
-    text(value)?
-        .parse()
-        .map_err(|_| Wrong::Argument(value, "a text of the number's digits"))
+    text(value)?.parse().map_err(|_| Wrong::Argument(value, "a text of the number's digits"))
 }
 
 /// Bytes, in hexadecimal.
@@ -103,9 +101,7 @@ pub fn object(value: &Value) -> Result<&Map<String, Value>, Wrong<'_>> {
 
 /// The member of that name.
 pub fn field<'a>(value: &'a Value, name: &'static str) -> Result<&'a Value, Wrong<'a>> {
-    object(value)?
-        .get(name)
-        .ok_or(Wrong::Missing(value, name))
+    object(value)?.get(name).ok_or(Wrong::Missing(value, name))
 }
 
 /// The name and the value of the only member.

@@ -1,11 +1,10 @@
 //! Lines and their answers.
 
-use crate::answers;
-use crate::answers::Answer;
+use crate::answers::{Answer, Object};
 use crate::arguments::Wrong;
 use crate::{
-    catalogs, expressions, fallback, hints, locales, localising, metadata, program, sinks, sources, tags,
-    texts, tries,
+    catalogs, expressions, fallback, hints, locales, localising, metadata, program, sinks, sources,
+    tags, texts, tries,
 };
 use serde_json::Value;
 use std::alloc::{AllocError, Global};
@@ -26,7 +25,10 @@ pub fn answer_line(alloc: Global, line: &[u8]) -> Result<Value, AllocError> {
         Value::Array(call) => answer_call(alloc, &call),
         _ => wrong(
             alloc,
-            String::from_str(alloc, "the line is to be a JSON array: a call's path, and its arguments")?,
+            String::from_str(
+                alloc,
+                "the line is to be a JSON array: a call's path, and its arguments",
+            )?,
         ),
     }
 }
@@ -43,22 +45,35 @@ fn answer_call(alloc: Global, call: &[Value]) -> Result<Value, AllocError> {
         Err(Wrong::NoMemory) => Err(AllocError),
         Err(Wrong::Call) => {
             let count = arguments.len();
-            wrong(alloc, format!(in alloc; "no call is {path} with {count} arguments")?)
+            wrong(
+                alloc,
+                format!(in alloc; "no call is {path} with {count} arguments")?,
+            )
         }
         Err(Wrong::Argument(argument, wanted)) => {
-            wrong(alloc, format!(in alloc; "{wanted} is wanted in place of {argument}")?)
+            wrong(
+                alloc,
+                format!(in alloc; "{wanted} is wanted in place of {argument}")?,
+            )
         }
         Err(Wrong::Missing(argument, name)) => {
             wrong(alloc, format!(in alloc; "{argument} has no member {name}")?)
         }
         Err(Wrong::Refused(argument, cause)) => {
-            wrong(alloc, format!(in alloc; "{argument} makes no value: {cause}")?)
+            wrong(
+                alloc,
+                format!(in alloc; "{argument} makes no value: {cause}")?,
+            )
         }
     }
 }
 
 fn wrong(alloc: Global, words: String) -> Result<Value, AllocError> {
-    answers::object(alloc, [("wrong", Value::String(words))])
+    Ok(
+        Object::new(alloc)
+            .with("wrong", Value::String(words))?
+            .value(),
+    )
 }
 
 /// The answer to a call, by its library.
@@ -79,17 +94,20 @@ fn answer<'a>(alloc: Global, path: &str, arguments: &'a [Value]) -> Answer<'a> {
 
 /// A call of `writeable`: by a type with calls of its own, or by the value that it is asked of.
 fn writeable_call<'a>(alloc: Global, call: &str, arguments: &'a [Value]) -> Answer<'a> {
-    match (call.split_once("::"), arguments) {
-        (Some(("LengthHint", call)), _) => hints::answer(alloc, call, arguments),
-        (Some(("TryWriteable", call)), [value]) => tries::answer(alloc, call, value),
-        (Some(("SliceSource" | "ScriptSource" | "SourceFault", _)), _) => {
+    match call.split_once("::") {
+        Some(("LengthHint", call)) => hints::answer(alloc, call, arguments),
+        Some(("TryWriteable", call)) => tries::answer(alloc, call, arguments),
+        Some(("SliceSource" | "ScriptSource" | "SourceFault", _)) => {
             sources::answer(alloc, call, arguments)
         }
-        (Some((_, "push" | "text")), _) => sinks::answer(alloc, call, arguments),
-        (None, [terms]) => hints::answer_sum(alloc, call, terms),
-        (_, [value, others @ ..]) => texts::answer(alloc, call, value, others),
-        _ => Err(Wrong::Call),
+        Some((_, "push" | "text")) => sinks::answer(alloc, call, arguments),
+        None if is_of_hints(call) => hints::answer_free(alloc, call, arguments),
+        _ => texts::answer(alloc, call, arguments),
     }
+}
+
+fn is_of_hints(call: &str) -> bool {
+    matches!(call, "sum_hints" | "sum_lengths" | "replaced_hint")
 }
 
 fn gettext_call<'a>(alloc: Global, call: &str, arguments: &'a [Value]) -> Answer<'a> {

@@ -5,11 +5,10 @@
 //! `Utf8`, `Latin1` or `Windows1252`, and `plural`, which is one of the expressions `0`, `1`, `n` and
 //! `n<2?0:1`. A form is an object of its number and its text. A catalog is answered by its buffer.
 
-use crate::answers;
-use crate::answers::Answer;
+use crate::answers::{Answer, Object};
 use crate::arguments::{Wrong, field, number, object, optional_text, size, text};
-use crate::metadata;
-use crate::sources::{Script, script};
+use crate::sources::{Script, script_of};
+use crate::{answers, metadata};
 use gettext::{Catalog, Error, Form, ParseOptions, PluralFunction};
 use serde_json::Value;
 use std::alloc::{AllocError, Global};
@@ -18,11 +17,11 @@ use std::alloc::{AllocError, Global};
 pub fn answer<'a>(alloc: Global, call: &str, arguments: &'a [Value]) -> Answer<'a> {
     match (call, arguments) {
         ("Catalog::empty", []) => Ok(answers::bytes(alloc, Catalog::empty(alloc).buffer())?),
-        (_, [given]) if is_reading(call) => match read(alloc, given)? {
+        (_, [given]) if is_reading(call) => match read_catalog(alloc, given)? {
             Ok(catalog) => Ok(answers::bytes(alloc, catalog.buffer())?),
             Err(error) => metadata::refused(alloc, error),
         },
-        (_, [given, others @ ..]) => match read(alloc, given)? {
+        (_, [given, others @ ..]) => match read_catalog(alloc, given)? {
             Ok(Read::Plain(catalog)) => by_file(alloc, call, &catalog, others),
             Ok(Read::Forced(catalog)) => by_function(alloc, call, &catalog, others),
             Err(error) => Err(metadata::unread(given, error)),
@@ -58,10 +57,10 @@ impl Read {
 }
 
 /// The catalog that an argument is.
-fn read<'a>(alloc: Global, given: &'a Value) -> Result<Result<Read, Error>, Wrong<'a>> {
+fn read_catalog<'a>(alloc: Global, given: &'a Value) -> Result<Result<Read, Error>, Wrong<'a>> {
     match given {
         Value::Null => Ok(Ok(Read::Plain(Catalog::empty(alloc)))),
-        Value::String(_) => Ok(whole(alloc, &script(alloc, given)?)),
+        Value::String(_) => Ok(whole(alloc, &script_of(alloc, given)?)),
         _ => read_with_options(alloc, given),
     }
 }
@@ -72,7 +71,7 @@ fn read_with_options<'a>(
 ) -> Result<Result<Read, Error>, Wrong<'a>> {
     let members = object(given)?;
     let mo = field(given, "mo")?;
-    let script = script(alloc, mo)?;
+    let script = script_of(alloc, mo)?;
     let options = match members.get("encoding") {
         Some(name) => ParseOptions::new().force_encoding(metadata::encoding_of(name)?),
         None => ParseOptions::new(),
@@ -141,19 +140,17 @@ fn two_forms(n: u64) -> usize {
 }
 
 /// A look-up whose answer is a form for a count.
-fn by_file<'a>(
-    alloc: Global,
-    call: &str,
-    catalog: &Catalog,
-    others: &'a [Value],
-) -> Answer<'a> {
+fn by_file<'a>(alloc: Global, call: &str, catalog: &Catalog, others: &'a [Value]) -> Answer<'a> {
     let answer = match (call, others) {
         ("Catalog::find", [context, id, n]) => {
             let found = catalog.find(optional_text(context)?, text(id)?, number(n)?);
             form(alloc, found)
         }
         ("Catalog::ngettext", [id, plural, n]) => {
-            answers::text(alloc, catalog.ngettext(text(id)?, text(plural)?, number(n)?))
+            answers::text(
+                alloc,
+                catalog.ngettext(text(id)?, text(plural)?, number(n)?),
+            )
         }
         ("Catalog::npgettext", [context, id, plural, n]) => {
             let (context, id, plural) = (text(context)?, text(id)?, text(plural)?);
@@ -177,7 +174,10 @@ fn by_function<'a>(
             form(alloc, found)
         }
         ("Catalog::ngettext", [id, plural, n]) => {
-            answers::text(alloc, catalog.ngettext(text(id)?, text(plural)?, number(n)?))
+            answers::text(
+                alloc,
+                catalog.ngettext(text(id)?, text(plural)?, number(n)?),
+            )
         }
         ("Catalog::npgettext", [context, id, plural, n]) => {
             let (context, id, plural) = (text(context)?, text(id)?, text(plural)?);
@@ -192,7 +192,12 @@ fn form(alloc: Global, form: Option<Form<'_>>) -> Result<Value, AllocError> {
     match form {
         Some(form) => {
             let text = answers::text(alloc, form.text)?;
-            answers::object(alloc, [("number", answers::size(form.number)), ("text", text)])
+            Ok(
+                Object::new(alloc)
+                    .with("number", answers::size(form.number))?
+                    .with("text", text)?
+                    .value(),
+            )
         }
         None => Ok(Value::Null),
     }

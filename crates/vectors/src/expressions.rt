@@ -4,10 +4,9 @@
 //! operator and the trees that it stands between. A resolver is an expression; null, which is the
 //! default; or `{"Function": "n<2?0:1"}`.
 
-use crate::answers;
-use crate::answers::Answer;
+use crate::answers::{Answer, Object};
 use crate::arguments::{Wrong, number, text};
-use crate::metadata;
+use crate::{answers, metadata};
 use gettext::{Ast, Operator, PluralFunction, Resolver, default_resolver};
 use serde_json::Value;
 use std::alloc::{AllocError, Global};
@@ -48,16 +47,20 @@ fn tree(alloc: Global, ast: &Ast) -> Result<Value, AllocError> {
     match ast {
         Ast::N => answers::text(alloc, "n"),
         Ast::Integer(integer) => Ok(answers::number(*integer)),
-        Ast::Not(inner) => answers::object(alloc, [("Not", tree(alloc, inner)?)]),
+        Ast::Not(inner) => Ok(Object::new(alloc).with("Not", tree(alloc, inner)?)?.value()),
         Ast::Op(operator, left, right) => {
             let sides = answers::list(alloc, [tree(alloc, left)?, tree(alloc, right)?])?;
-            answers::object(alloc, [(operator_name(*operator), sides)])
+            Ok(
+                Object::new(alloc)
+                    .with(operator_name(*operator), sides)?
+                    .value(),
+            )
         }
         Ast::Ternary(condition, first, second) => {
             let condition = tree(alloc, condition)?;
             let (first, second) = (tree(alloc, first)?, tree(alloc, second)?);
             let parts = answers::list(alloc, [condition, first, second])?;
-            answers::object(alloc, [("Ternary", parts)])
+            Ok(Object::new(alloc).with("Ternary", parts)?.value())
         }
     }
 }

@@ -4,10 +4,10 @@
 //! and `parents`, each a list of rows of texts; one that is left out is empty. Null is no tables.
 //! A walk is the texts of its locales, to the unknown one or up to a number of steps.
 
-use crate::answers;
-use crate::answers::Answer;
+use crate::answers::{Answer, Object};
 use crate::arguments::{Wrong, list, number, object, text};
-use crate::locales::{locale, printed};
+use crate::locales::printed;
+use crate::{answers, locales};
 use icu_locale_core::DataLocale;
 use icu_locale_fallback::{
     FallbackRows, LocaleFallbackConfig, LocaleFallbackIterator, LocaleFallbackPriority,
@@ -79,7 +79,10 @@ fn configured<'a>(
             | "LocaleFallbackerWithConfig::config",
             [],
         ) => Ok(config_answer(alloc, with_config.config())?),
-        (_, [start, steps]) => walk(alloc, call, with_config, locale(start)?, number(steps)?),
+        (_, [start, steps]) => match DataLocale::try_from_str(text(start)?) {
+            Ok(locale) => walk(alloc, call, with_config, locale, number(steps)?),
+            Err(error) => Err(Wrong::Refused(start, locales::name(error))),
+        },
         _ => Err(Wrong::Call),
     }
 }
@@ -92,27 +95,40 @@ fn walk<'a>(
     start: DataLocale,
     steps: u64,
 ) -> Answer<'a> {
-    let mut walk = with_config.fallback_for(start);
-    match call {
-        "LocaleFallbackerWithConfig::fallback_for" => walked(alloc, walk, steps),
+    let answer = match call {
+        "LocaleFallbackerWithConfig::fallback_for" => walked(alloc, with_config, start, steps),
         "LocaleFallbackIterator::step" | "LocaleFallbackIterator::get" => {
-            for _ in 0..steps {
-                walk.step();
-            }
-            printed(alloc, walk.get())
+            printed(alloc, stepped(with_config, start, steps).get())
         }
         "LocaleFallbackIterator::take" => {
-            for _ in 0..steps {
-                walk.step();
-            }
-            printed(alloc, &walk.take())
+            printed(alloc, &stepped(with_config, start, steps).take())
         }
-        _ => Err(Wrong::Call),
-    }
+        _ => return Err(Wrong::Call),
+    };
+    Ok(answer?)
 }
 
-/// The locales of a walk.
-fn walked<'a>(alloc: Global, mut walk: LocaleFallbackIterator<'_>, steps: u64) -> Answer<'a> {
+/// The walk from a locale after a number of steps.
+fn stepped<'a>(
+    with_config: LocaleFallbackerWithConfig<'a>,
+    start: DataLocale,
+    steps: u64,
+) -> LocaleFallbackIterator<'a> {
+    let mut walk = with_config.fallback_for(start);
+    for _ in 0..steps {
+        walk.step();
+    }
+    walk
+}
+
+/// The locales of the walk from a locale.
+fn walked(
+    alloc: Global,
+    with_config: LocaleFallbackerWithConfig<'_>,
+    start: DataLocale,
+    steps: u64,
+) -> Result<Value, AllocError> {
+    let mut walk = with_config.fallback_for(start);
     let mut texts = Vec::new(alloc);
     texts.push(printed(alloc, walk.get())?)?;
     for _ in 0..steps {
@@ -127,7 +143,7 @@ fn walked<'a>(alloc: Global, mut walk: LocaleFallbackIterator<'_>, steps: u64) -
 
 fn config_answer(alloc: Global, config: LocaleFallbackConfig) -> Result<Value, AllocError> {
     let priority = answers::text(alloc, priority_name(config.priority))?;
-    answers::object(alloc, [("priority", priority)])
+    Ok(Object::new(alloc).with("priority", priority)?.value())
 }
 
 fn priority_name(priority: LocaleFallbackPriority) -> &'static str {

@@ -5,7 +5,7 @@ use crate::answers::Answer;
 use crate::arguments::{Wrong, list, optional_size, size};
 use serde_json::Value;
 use std::alloc::{AllocError, Global};
-use writeable::{LengthHint, sum_hints, sum_lengths};
+use writeable::{LengthHint, replaced_hint, sum_hints, sum_lengths};
 
 /// A call of `LengthHint`, by its name.
 pub fn answer<'a>(alloc: Global, call: &str, arguments: &'a [Value]) -> Answer<'a> {
@@ -16,14 +16,17 @@ pub fn answer<'a>(alloc: Global, call: &str, arguments: &'a [Value]) -> Answer<'
     }
 }
 
-/// A sum of hints or of lengths, by the call's name.
-pub fn answer_sum<'a>(alloc: Global, call: &str, terms: &'a Value) -> Answer<'a> {
-    let sum = match call {
-        "sum_hints" => sum_hints(&hints_of(alloc, terms)?),
-        "sum_lengths" => sum_lengths(&lengths_of(alloc, terms)?),
+/// A call that combines hints or lengths, by its name.
+pub fn answer_free<'a>(alloc: Global, call: &str, arguments: &'a [Value]) -> Answer<'a> {
+    let hint = match (call, arguments) {
+        ("sum_hints", [terms]) => sum_hints(&hints_of(alloc, terms)?),
+        ("sum_lengths", [terms]) => sum_lengths(&lengths_of(alloc, terms)?),
+        ("replaced_hint", [source, needle, replacement]) => {
+            replaced_hint(hint_of(source)?, size(needle)?, hint_of(replacement)?)
+        }
         _ => return Err(Wrong::Call),
     };
-    Ok(answers::hint(alloc, sum)?)
+    Ok(answers::hint(alloc, hint)?)
 }
 
 /// The hint that a call gives.

@@ -5,7 +5,7 @@ use crate::answers::Answer;
 use crate::arguments::{Wrong, bytes, text};
 use icu_locale_core::{DataLocale, Language, LocaleError, Region, Script, Subtag, Variant};
 use serde_json::Value;
-use std::alloc::Global;
+use std::alloc::{AllocError, Global};
 use std::fmt::Display;
 
 /// A call of `icu_locale_core`, by its path.
@@ -23,54 +23,52 @@ pub fn answer<'a>(alloc: Global, call: &str, arguments: &'a [Value]) -> Answer<'
 }
 
 fn data_locale<'a>(alloc: Global, call: &str, arguments: &'a [Value]) -> Answer<'a> {
-    match arguments {
-        [] if call == "default" => printed(alloc, &DataLocale::default()),
-        [given] if call == "try_from_str" => match DataLocale::try_from_str(text(given)?) {
-            Ok(locale) => printed(alloc, &locale),
-            Err(error) => Ok(answers::refused(alloc, name(error))?),
+    match (call, arguments) {
+        ("default", []) => Ok(printed(alloc, &DataLocale::default())?),
+        ("try_from_str", [given]) => Ok(parsed(alloc, text(given)?)?),
+        (_, [given, others @ ..]) => match DataLocale::try_from_str(text(given)?) {
+            Ok(locale) => of_locale(alloc, call, &locale, others),
+            Err(error) => Err(Wrong::Refused(given, name(error))),
         },
-        [given] => of_locale(alloc, call, &locale(given)?),
-        [given, other] => of_locale_and_other(alloc, call, &locale(given)?, other),
         _ => Err(Wrong::Call),
     }
 }
 
-fn of_locale<'a>(alloc: Global, call: &str, locale: &DataLocale) -> Answer<'a> {
-    match call {
-        "is_unknown" => Ok(Value::Bool(locale.is_unknown())),
-        "to_string" => printed(alloc, locale),
-        "write_to" => Ok(answers::written(alloc, locale)?),
-        _ => Err(Wrong::Call),
+fn parsed(alloc: Global, text: &str) -> Result<Value, AllocError> {
+    match DataLocale::try_from_str(text) {
+        Ok(locale) => printed(alloc, &locale),
+        Err(error) => answers::refused(alloc, name(error)),
     }
 }
 
-fn of_locale_and_other<'a>(
+fn of_locale<'a>(
     alloc: Global,
     call: &str,
-    one: &DataLocale,
-    other: &'a Value,
+    locale: &DataLocale,
+    others: &'a [Value],
 ) -> Answer<'a> {
-    match call {
-        "strict_cmp" => {
-            let order = one.strict_cmp(&bytes(alloc, other)?);
+    match (call, others) {
+        ("is_unknown", []) => Ok(Value::Bool(locale.is_unknown())),
+        ("to_string", []) => Ok(printed(alloc, locale)?),
+        ("write_to", []) => Ok(answers::written(alloc, locale)?),
+        ("strict_cmp", [other]) => {
+            let order = locale.strict_cmp(&bytes(alloc, other)?);
             Ok(answers::ordering(alloc, order)?)
         }
-        "eq" => Ok(Value::Bool(*one == locale(other)?)),
+        ("eq", [other]) => match DataLocale::try_from_str(text(other)?) {
+            Ok(other) => Ok(Value::Bool(*locale == other)),
+            Err(error) => Err(Wrong::Refused(other, name(error))),
+        },
         _ => Err(Wrong::Call),
     }
-}
-
-/// The data locale that an argument is.
-pub fn locale(given: &Value) -> Result<DataLocale, Wrong<'_>> {
-    DataLocale::try_from_str(text(given)?).map_err(|error| Wrong::Refused(given, name(error)))
 }
 
 /// The text that the value prints.
-pub fn printed<'a, T: Display>(alloc: Global, value: &T) -> Answer<'a> {
+pub fn printed<T: Display>(alloc: Global, value: &T) -> Result<Value, AllocError> {
     Ok(Value::String(value.to_string(alloc)?))
 }
 
-fn name(error: LocaleError) -> &'static str {
+pub fn name(error: LocaleError) -> &'static str {
     match error {
         LocaleError::Malformed => "Malformed",
     }
@@ -79,6 +77,7 @@ fn name(error: LocaleError) -> &'static str {
 /// A subtag, made of its text.
 trait Subtags: Ord + Display + Drop {
     fn read(text: &str) -> Result<Self, LocaleError>;
+
     fn name(&self) -> &str;
 }
 
@@ -135,7 +134,10 @@ impl Subtags for Subtag {
 fn language<'a>(alloc: Global, call: &str, arguments: &'a [Value]) -> Answer<'a> {
     match (call, arguments) {
         ("unknown", []) => Ok(answers::text(alloc, Language::unknown().as_str())?),
-        ("is_unknown", [given]) => Ok(Value::Bool(made::<Language>(given)?.is_unknown())),
+        ("is_unknown", [given]) => match Language::try_from_str(text(given)?) {
+            Ok(language) => Ok(Value::Bool(language.is_unknown())),
+            Err(error) => Err(Wrong::Refused(given, name(error))),
+        },
         _ => subtag::<Language>(alloc, call, arguments),
     }
 }
@@ -147,7 +149,7 @@ fn subtag<'a, T: Subtags>(alloc: Global, call: &str, arguments: &'a [Value]) -> 
             Err(error) => answers::refused(alloc, name(error)),
         },
         ("as_str", [given]) => answers::text(alloc, made::<T>(given)?.name()),
-        ("to_string", [given]) => return printed(alloc, &made::<T>(given)?),
+        ("to_string", [given]) => printed(alloc, &made::<T>(given)?),
         ("cmp", [left, right]) => {
             answers::ordering(alloc, made::<T>(left)?.cmp(&made::<T>(right)?))
         }

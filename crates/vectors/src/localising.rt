@@ -1,9 +1,8 @@
 //! Calls of localisers. A bundle is an object of `tag` and `mo`.
 
-use crate::answers;
-use crate::answers::Answer;
+use crate::answers::{Answer, Object};
 use crate::arguments::{Wrong, bytes, field, list, member, text};
-use crate::metadata;
+use crate::{answers, metadata};
 use localise::{BundleCause, BundleText, Localiser, MoBytes, RenderError};
 use serde_json::Value;
 use std::alloc::{AllocError, Global};
@@ -35,11 +34,21 @@ fn tried<'a>(alloc: Global, given: &'a Value) -> Answer<'a> {
 }
 
 /// The refusal of a bundle, with its cause.
-pub fn refused_bundle(alloc: Global, bundle: usize, error: BundleCause) -> Result<Value, AllocError> {
+pub fn refused_bundle(
+    alloc: Global,
+    bundle: usize,
+    error: BundleCause,
+) -> Result<Value, AllocError> {
     let refused = answers::text(alloc, "Bundle")?;
     let at = answers::list(alloc, [answers::size(bundle)])?;
     let cause = cause(alloc, error)?;
-    answers::object(alloc, [("refused", refused), ("at", at), ("cause", cause)])
+    Ok(
+        Object::new(alloc)
+            .with("refused", refused)?
+            .with("at", at)?
+            .with("cause", cause)?
+            .value(),
+    )
 }
 
 /// What is wrong with a bundle, and the error that says so.
@@ -47,7 +56,7 @@ fn cause(alloc: Global, cause: BundleCause) -> Result<Value, AllocError> {
     match cause {
         BundleCause::Mo(error) => {
             let name = answers::text(alloc, metadata::name(error))?;
-            answers::object(alloc, [("Mo", name)])
+            Ok(Object::new(alloc).with("Mo", name)?.value())
         }
     }
 }

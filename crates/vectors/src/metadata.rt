@@ -26,12 +26,7 @@ pub fn answer<'a>(alloc: Global, call: &str, arguments: &'a [Value]) -> Answer<'
     }
 }
 
-fn of_map<'a>(
-    alloc: Global,
-    call: &str,
-    map: &MetadataMap<'_>,
-    others: &'a [Value],
-) -> Answer<'a> {
+fn of_map<'a>(alloc: Global, call: &str, map: &MetadataMap<'_>, others: &'a [Value]) -> Answer<'a> {
     let answer = match (call, others) {
         ("MetadataMap::get", [name]) => answers::optional_text(alloc, map.get(text(name)?)),
         ("MetadataMap::charset", []) => answers::optional_text(alloc, map.charset()),

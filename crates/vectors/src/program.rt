@@ -6,11 +6,11 @@
 //! the output and the error sink took.
 
 use crate::answers;
-use crate::answers::Answer;
+use crate::answers::{Answer, Object};
 use crate::arguments::{Wrong, list, text};
 use crate::localising::refused_bundle;
 use crate::sinks::numbers;
-use crate::sources::{Script, script};
+use crate::sources::{Script, script_of};
 use localise_run::{Status, run};
 use serde_json::Value;
 use std::alloc::{AllocError, Global};
@@ -43,7 +43,7 @@ fn texts<'a>(alloc: Global, given: &'a Value) -> Result<Vec<String>, Wrong<'a>> 
 fn document<'a>(alloc: Global, given: &'a Value) -> Result<Script, Wrong<'a>> {
     match given {
         Value::String(text) => Ok(Script::of_text(alloc, text.as_str())?),
-        _ if given.get("most").is_some() => script(alloc, given),
+        _ if given.get("most").is_some() => script_of(alloc, given),
         _ => Ok(Script::of_text(alloc, given.to_string(alloc)?.as_str())?),
     }
 }
@@ -61,15 +61,14 @@ fn run_into<'a>(
     let errors = Value::String(err.into_string());
     let code = answers::number(u64::from(status.code()));
     let status = status_answer(alloc, status)?;
-    Ok(answers::object(
-        alloc,
-        [
-            ("status", status),
-            ("code", code),
-            ("output", output),
-            ("errors", errors),
-        ],
-    )?)
+    Ok(
+        Object::new(alloc)
+            .with("status", status)?
+            .with("code", code)?
+            .with("output", output)?
+            .with("errors", errors)?
+            .value(),
+    )
 }
 
 /// The status's name, with the bundle and its cause where one is refused.

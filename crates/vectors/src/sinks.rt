@@ -2,7 +2,7 @@
 //! answered by `Ok` or by the name of its error, and beside them stands what the sink holds.
 
 use crate::answers;
-use crate::answers::Answer;
+use crate::answers::{Answer, Object};
 use crate::arguments::{Wrong, character, list, member, number, text};
 use serde_json::Value;
 use std::alloc::{AllocError, Global};
@@ -32,9 +32,14 @@ pub fn answer<'a>(alloc: Global, call: &str, arguments: &'a [Value]) -> Answer<'
         }
         ("CountSink::push", [pieces]) => {
             let mut sink = CountSink::new();
-            let pushes = ("pushes", pushes(alloc, &mut sink, pieces)?);
-            let bytes = ("bytes", answers::number(sink.bytes()));
-            Ok(answers::object(alloc, [pushes, bytes])?)
+            let pushes = pushes(alloc, &mut sink, pieces)?;
+            let bytes = answers::number(sink.bytes());
+            Ok(
+                Object::new(alloc)
+                    .with("pushes", pushes)?
+                    .with("bytes", bytes)?
+                    .value(),
+            )
         }
         ("FixedSink<4>::push", [pieces]) => fixed::<4>(alloc, pieces),
         ("FixedSink<64>::push", [pieces]) => fixed::<64>(alloc, pieces),
@@ -50,7 +55,12 @@ fn fixed<'a, const N: usize>(alloc: Global, pieces: &'a Value) -> Answer<'a> {
 
 fn held(alloc: Global, pushes: Value, text: &str) -> Result<Value, AllocError> {
     let text = answers::text(alloc, text)?;
-    answers::object(alloc, [("pushes", pushes), ("text", text)])
+    Ok(
+        Object::new(alloc)
+            .with("pushes", pushes)?
+            .with("text", text)?
+            .value(),
+    )
 }
 
 /// Pushes the pieces, and lists what each push answered.
@@ -67,10 +77,7 @@ fn pushes<'a, S: Sink>(alloc: Global, sink: &mut S, pieces: &'a Value) -> Answer
     Ok(Value::Array(answers))
 }
 
-fn push<'a, S: Sink>(
-    sink: &mut S,
-    piece: &'a Value,
-) -> Result<Result<(), SinkError>, Wrong<'a>> {
+fn push<'a, S: Sink>(sink: &mut S, piece: &'a Value) -> Result<Result<(), SinkError>, Wrong<'a>> {
     if let Value::String(text) = piece {
         return Ok(sink.push_str(text.as_str()));
     }

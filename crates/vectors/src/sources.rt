@@ -21,7 +21,7 @@ pub fn answer<'a>(alloc: Global, call: &str, arguments: &'a [Value]) -> Answer<'
             reads(alloc, &mut SliceSource::new(&bytes(alloc, given)?), sizes)
         }
         ("ScriptSource::read", [given, sizes]) => {
-            let script = script(alloc, given)?;
+            let script = script_of(alloc, given)?;
             reads(alloc, &mut script.source(), sizes)
         }
         _ => Err(Wrong::Call),
@@ -33,7 +33,7 @@ pub fn answer_reading<'a>(alloc: Global, call: &str, arguments: &'a [Value]) -> 
     let ("read_all", [given]) = (call, arguments) else {
         return Err(Wrong::Call);
     };
-    let answer = match read_all(alloc, &mut script(alloc, given)?.source()) {
+    let answer = match read_all(alloc, &mut script_of(alloc, given)?.source()) {
         Ok(bytes) => answers::bytes(alloc, &bytes),
         Err(ReadError::Fault) => answers::refused(alloc, "Fault"),
         Err(ReadError::TooLong) => answers::refused(alloc, "TooLong"),
@@ -70,7 +70,7 @@ impl Script {
 }
 
 /// The script that an argument is: an object, or bytes that are given whole.
-pub fn script<'a>(alloc: Global, given: &'a Value) -> Result<Script, Wrong<'a>> {
+pub fn script_of<'a>(alloc: Global, given: &'a Value) -> Result<Script, Wrong<'a>> {
     if given.is_string() {
         return Ok(Script {
             bytes: bytes(alloc, given)?,

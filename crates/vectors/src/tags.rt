@@ -1,5 +1,7 @@
 //! Calls of small texts. A `TinyStr` is its text.
 
+ghost use Rattle.std.specs.Prelude.{◌≤◌};
+
 use crate::answers;
 use crate::answers::Answer;
 use crate::arguments::{Wrong, bytes, text};
@@ -21,16 +23,43 @@ pub fn answer<'a>(alloc: Global, call: &str, arguments: &'a [Value]) -> Answer<'
 }
 
 /// A call of a text of at most `N` bytes.
-fn tiny<'a, const N: usize>(alloc: Global, call: &str, arguments: &'a [Value]) -> Answer<'a> {
-    match arguments {
-        [given] if call == "try_from_bytes" => parsed::<N>(alloc, given),
-        [given] => one::<N>(alloc, call, made(given)?),
-        [left, right] => two::<N>(alloc, call, made(left)?, made(right)?),
+fn tiny<'a, const N: usize>(alloc: Global, call: &str, arguments: &'a [Value]) -> Answer<'a>
+    requires { N ≤ 8 }
+{
+    let [given, others @ ..] = arguments else {
+        return Err(Wrong::Call);
+    };
+    if call == "try_from_bytes" && others.is_empty() {
+        return parsed::<N>(alloc, given);
+    }
+    match TinyStr::<N>::try_from_bytes(text(given)?.as_bytes()) {
+        Ok(tiny) => of_tiny(alloc, call, tiny, others),
+        Err(error) => Err(Wrong::Refused(given, name(error))),
+    }
+}
+
+/// A call of a text, or of it and another.
+fn of_tiny<'a, const N: usize>(
+    alloc: Global,
+    call: &str,
+    tiny: TinyStr<N>,
+    others: &'a [Value],
+) -> Answer<'a>
+    requires { N ≤ 8 }
+{
+    match others {
+        [] => one(alloc, call, tiny),
+        [other] => match TinyStr::<N>::try_from_bytes(text(other)?.as_bytes()) {
+            Ok(right) => two(alloc, call, tiny, right),
+            Err(error) => Err(Wrong::Refused(other, name(error))),
+        },
         _ => Err(Wrong::Call),
     }
 }
 
-fn parsed<'a, const N: usize>(alloc: Global, given: &'a Value) -> Answer<'a> {
+fn parsed<'a, const N: usize>(alloc: Global, given: &'a Value) -> Answer<'a>
+    requires { N ≤ 8 }
+{
     let answer = match TinyStr::<N>::try_from_bytes(&bytes(alloc, given)?) {
         Ok(tiny) => answers::text(alloc, tiny.as_str()),
         Err(error) => answers::refused(alloc, name(error)),
@@ -38,7 +67,9 @@ fn parsed<'a, const N: usize>(alloc: Global, given: &'a Value) -> Answer<'a> {
     Ok(answer?)
 }
 
-fn one<'a, const N: usize>(alloc: Global, call: &str, tiny: TinyStr<N>) -> Answer<'a> {
+fn one<'a, const N: usize>(alloc: Global, call: &str, tiny: TinyStr<N>) -> Answer<'a>
+    requires { N ≤ 8 }
+{
     let changed = match call {
         "as_str" => tiny,
         "to_ascii_lowercase" => tiny.to_ascii_lowercase(),
@@ -65,11 +96,6 @@ fn two<'a, const N: usize>(
         "eq" => Ok(Value::Bool(left == right)),
         _ => Err(Wrong::Call),
     }
-}
-
-fn made<const N: usize>(given: &Value) -> Result<TinyStr<N>, Wrong<'_>> {
-    TinyStr::try_from_bytes(text(given)?.as_bytes())
-        .map_err(|error| Wrong::Refused(given, name(error)))
 }
 
 fn name(error: TinyError) -> &'static str {

@@ -5,11 +5,10 @@
 //! `{"u64": ..}` and `{"Part": [category, value, text]}`. `lower` is the text in ASCII lower case,
 //! lent where it has no other letters.
 
-use crate::answers;
-use crate::answers::Answer;
+use crate::answers::{Answer, Object};
 use crate::arguments::{Wrong, bytes, character, list, member, text, wide};
-use crate::sinks;
 use crate::tries::attempt;
+use crate::{answers, sinks};
 use either::{Either, Left, Right};
 use serde_json::Value;
 use std::alloc::{AllocError, Global};
@@ -41,12 +40,10 @@ enum Question<'a> {
 }
 
 /// A call whose first argument is a value that writes a text, by the call's path.
-pub fn answer<'a>(
-    alloc: Global,
-    call: &str,
-    value: &'a Value,
-    others: &'a [Value],
-) -> Answer<'a> {
+pub fn answer<'a>(alloc: Global, call: &str, arguments: &'a [Value]) -> Answer<'a> {
+    let [value, others @ ..] = arguments else {
+        return Err(Wrong::Call);
+    };
     let question = match (call, others) {
         ("Writeable::write_to" | "Writeable::write_to_parts", []) => Question::Written,
         ("Writeable::write_to_string", []) => Question::Text,
@@ -169,7 +166,12 @@ impl Question<'_> {
 fn string(alloc: Global, written: CowStr<'_>) -> Result<Value, AllocError> {
     let borrowed = matches!(written, CowStr::Borrowed(_));
     let text = Value::String(written.into_owned(alloc)?);
-    answers::object(alloc, [("text", text), ("borrowed", Value::Bool(borrowed))])
+    Ok(
+        Object::new(alloc)
+            .with("text", text)?
+            .with("borrowed", Value::Bool(borrowed))?
+            .value(),
+    )
 }
 
 /// The text that arrives at a sink that drops the marks of parts.

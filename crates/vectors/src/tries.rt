@@ -5,7 +5,7 @@
 //! answered as the text that it writes.
 
 use crate::answers;
-use crate::answers::Answer;
+use crate::answers::{Answer, Object};
 use crate::arguments::{Wrong, list, member, size, text};
 use either::{Either, Left, Right};
 use serde_json::Value;
@@ -21,7 +21,10 @@ type Error<'a> = Either<usize, Text<'a>>;
 pub type Attempt<'a> = Result<Text<'a>, Error<'a>>;
 
 /// A call of `TryWriteable`, by its name.
-pub fn answer<'a>(alloc: Global, call: &str, value: &'a Value) -> Answer<'a> {
+pub fn answer<'a>(alloc: Global, call: &str, arguments: &'a [Value]) -> Answer<'a> {
+    let [value] = arguments else {
+        return Err(Wrong::Call);
+    };
     let answer = match member(value)? {
         ("Concat", inner) => {
             let (first, second) = pair(inner)?;
@@ -79,31 +82,37 @@ fn tried<'a, T: TryWriteable<Error = Error<'a>>>(
     let mut sink = StringSink::new(alloc);
     let error = value.try_write_to(&mut sink).map_err(|_| AllocError)?.err();
     let (parts, _) = try_writeable_to_parts_for_test(alloc, value)?;
-    answers::object(
-        alloc,
-        [
-            ("text", Value::String(sink.into_string())),
-            ("parts", answers::spans(alloc, parts.spans())?),
-            ("hint", answers::hint(alloc, value.writeable_length_hint())?),
-            ("error", error_text(alloc, error)?),
-        ],
+    Ok(
+        Object::new(alloc)
+            .with("text", Value::String(sink.into_string()))?
+            .with("parts", answers::spans(alloc, parts.spans())?)?
+            .with("hint", answers::hint(alloc, value.writeable_length_hint())?)?
+            .with("error", error_text(alloc, error)?)?
+            .value(),
     )
 }
 
-fn string(
-    alloc: Global,
-    text: CowStr<'_>,
-    error: Option<Error<'_>>,
-) -> Result<Value, AllocError> {
+fn string(alloc: Global, text: CowStr<'_>, error: Option<Error<'_>>) -> Result<Value, AllocError> {
     let borrowed = Value::Bool(matches!(text, CowStr::Borrowed(_)));
     let text = Value::String(text.into_owned(alloc)?);
     let error = error_text(alloc, error)?;
-    answers::object(alloc, [("text", text), ("borrowed", borrowed), ("error", error)])
+    Ok(
+        Object::new(alloc)
+            .with("text", text)?
+            .with("borrowed", borrowed)?
+            .with("error", error)?
+            .value(),
+    )
 }
 
 fn lent(alloc: Global, text: &str, error: Option<Error<'_>>) -> Result<Value, AllocError> {
     let text = answers::text(alloc, text)?;
-    answers::object(alloc, [("text", text), ("error", error_text(alloc, error)?)])
+    Ok(
+        Object::new(alloc)
+            .with("text", text)?
+            .with("error", error_text(alloc, error)?)?
+            .value(),
+    )
 }
 
 /// The text that the error writes, or null.
