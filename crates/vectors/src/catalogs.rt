@@ -1,178 +1,242 @@
-//! MO files, by `Catalog::parse_bytes` and `Catalog::find`.
+//! Calls of catalogs.
+//!
+//! A catalog is the bytes of its MO file; null, which is the empty catalog; or an object of `mo`
+//! (bytes, or a source that gives them: see `sources`), and of what is forced: `encoding`, which is
+//! `Utf8`, `Latin1` or `Windows1252`, and `plural`, which is one of the expressions `0`, `1`, `n` and
+//! `n<2?0:1`. A form is an object of its number and its text. A catalog is answered by its buffer.
 
-use crate::layout::mo_of;
-use gettext::{Catalog, Error};
+use crate::answers::{Answer, Object};
+use crate::arguments::{Wrong, field, number, object, optional_text, size, text};
+use crate::sources::{Script, script_of};
+use crate::{answers, metadata};
+use gettext::{Catalog, Error, Form, ParseOptions, PluralFunction};
+use serde_json::Value;
 use std::alloc::{AllocError, Global};
-use std::test::Fail;
 
-/// One message, `Hi` with the form `Salut`.
-pub const SALUT: &str =
-    "de12049500000000010000001c00000024000000000000002c000000020000002c000000050000002f00000048690053616c757400";
-
-/// The same, with the most significant byte of each number first.
-const BIG_ENDIAN: &str =
-    "950412de00000000000000010000001c00000024000000000000002c000000020000002c000000050000002f48690053616c757400";
-
-/// One message, `Hello %s` with the form `Bonjour %s`.
-const BONJOUR: &str =
-    "de12049500000000010000001c00000024000000000000002c000000080000002c0000000a0000003500000048656c6c6f20257300426f6e6a6f757220257300";
-
-/// `SALUT` with more rows than it has bytes.
-const COUNT_PAST_END: &str =
-    "de12049500000000ffffffff1c00000024000000000000002c000000020000002c000000050000002f00000048690053616c757400";
-
-/// `SALUT` with an original that lies past the end.
-const TEXT_PAST_END: &str =
-    "de12049500000000010000001c00000024000000000000002c000000ffffffffffffffff050000002f00000048690053616c757400";
-
-/// Both tables are one.
-const ONE_TABLE: &str =
-    "de12049500000000010000001c0000001c00000000000000240000000200000024000000486900";
-
-/// These bytes, and 24 zeros behind them.
-fn padded(alloc: Global, front: &[u8]) -> Result<Vec<u8>, AllocError> {
-    let mut bytes = Vec::from_slice(alloc, front)?;
-    bytes.extend_from_slice(&[0; 24])?;
-    Ok(bytes)
-}
-
-/// Why the bytes are no catalog.
-fn fault_of(alloc: Global, bytes: &[u8]) -> Option<Error> {
-    Catalog::parse_bytes(alloc, bytes).err()
-}
-
-/// Whether a catalog has that form of that number for an id and a count.
-fn finds(catalog: &Catalog, id: &str, n: u64, number: usize, text: &str) -> bool {
-    catalog
-        .find(None, id, n)
-        .is_some_and(|form| form.number == number && form.text == text)
-}
-
-#[test]
-fn short_files(rt: HostRuntime) -> Result<(), Fail> {
-    let alloc = rt.alloc();
-    assert_eq!(rt;
-        fault_of(alloc, &padded(alloc, &[1, 2, 3])?),
-        Some(Error::Eof)
-    );
-    assert_eq!(rt;
-        fault_of(alloc, &padded(alloc, &[1, 2, 3, 4])?),
-        Some(Error::BadMagic)
-    );
-    assert_eq!(rt; fault_of(alloc, &[0; 28]), Some(Error::BadMagic));
-    for magic in [[0xde, 0x12, 0x04, 0x95], [0x95, 0x04, 0x12, 0xde]] {
-        let empty = Catalog::parse_bytes(alloc, &padded(alloc, &magic)?)?;
-        assert!(rt; empty.find(None, "", 0).is_none());
+/// A call of a catalog or of reading one, by its path.
+pub fn answer<'a>(alloc: Global, call: &str, arguments: &'a [Value]) -> Answer<'a> {
+    match (call, arguments) {
+        ("Catalog::empty", []) => Ok(answers::bytes(alloc, Catalog::empty(alloc).buffer())?),
+        (_, [given]) if is_reading(call) => match read_catalog(alloc, given)? {
+            Ok(catalog) => Ok(answers::bytes(alloc, catalog.buffer())?),
+            Err(error) => metadata::refused(alloc, error),
+        },
+        (_, [given, others @ ..]) => match read_catalog(alloc, given)? {
+            Ok(Read::Plain(catalog)) => by_file(alloc, call, &catalog, others),
+            Ok(Read::Forced(catalog)) => by_function(alloc, call, &catalog, others),
+            Err(error) => Err(metadata::unread(given, error)),
+        },
+        _ => Err(Wrong::Call),
     }
-    Ok(())
 }
 
-#[test]
-fn cut_files(rt: HostRuntime) -> Result<(), Fail> {
-    let alloc = rt.alloc();
-    let bytes = hex::decode(alloc, SALUT)?;
-    assert_eq!(rt; bytes.len(), 53);
-    for length in 0..bytes.len() {
-        assert_eq!(rt;
-            fault_of(alloc, &bytes[..length]),
-            Some(Error::Eof),
-            "at {length}"
-        );
+fn is_reading(call: &str) -> bool {
+    matches!(
+        call,
+        "Catalog::parse"
+            | "Catalog::parse_bytes"
+            | "ParseOptions::parse"
+            | "ParseOptions::parse_bytes"
+    )
+}
+
+/// A catalog with its file's plural rule, or with a function in its place.
+#[derive(Drop)]
+enum Read {
+    Plain(Catalog),
+    Forced(Catalog<PluralFunction>),
+}
+
+impl Read {
+    fn buffer(&self) -> &[u8] {
+        match self {
+            Read::Plain(catalog) => catalog.buffer(),
+            Read::Forced(catalog) => catalog.buffer(),
+        }
     }
-    let whole = Catalog::parse_bytes(alloc, &bytes)?;
-    assert!(rt; finds(&whole, "Hi", 1, 0, "Salut"));
-    Ok(())
 }
 
-#[test]
-fn hostile_files(rt: HostRuntime) -> Result<(), Fail> {
-    let alloc = rt.alloc();
-    for file in [COUNT_PAST_END, TEXT_PAST_END] {
-        assert_eq!(rt;
-            fault_of(alloc, &hex::decode(alloc, file)?),
-            Some(Error::Eof)
-        );
+/// The catalog that an argument is.
+fn read_catalog<'a>(alloc: Global, given: &'a Value) -> Result<Result<Read, Error>, Wrong<'a>> {
+    match given {
+        Value::Null => Ok(Ok(Read::Plain(Catalog::empty(alloc)))),
+        Value::String(_) => Ok(whole(alloc, &script_of(alloc, given)?)),
+        _ => read_with_options(alloc, given),
     }
-    let form = mo_of(alloc, &[(b"Hi", b"Salut\0\xff")])?;
-    assert_eq!(rt; fault_of(alloc, &form), Some(Error::DecodingError));
-    let id = mo_of(alloc, &[(b"H\xff", b"Salut")])?;
-    assert_eq!(rt; fault_of(alloc, &id), Some(Error::DecodingError));
-    let empty = mo_of(alloc, &[(b"Hi", b"Salut"), (b"", b"Language: fr\n")])?;
-    assert_eq!(rt; fault_of(alloc, &empty), Some(Error::MisplacedMetadata));
-    let context = mo_of(alloc, &[(b"Hi", b"Salut"), (b"x\x04", b"Language: fr\n")])?;
-    assert_eq!(rt; fault_of(alloc, &context), Some(Error::MisplacedMetadata));
-    Ok(())
 }
 
-#[test]
-fn files(rt: HostRuntime) -> Result<(), Fail> {
-    let alloc = rt.alloc();
-    for (file, id, text) in [
-        (SALUT, "Hi", "Salut"),
-        (BIG_ENDIAN, "Hi", "Salut"),
-        (BONJOUR, "Hello %s", "Bonjour %s"),
-        (ONE_TABLE, "Hi", "Hi"),
-    ] {
-        let catalog = Catalog::parse_bytes(alloc, &hex::decode(alloc, file)?)?;
-        assert!(rt; finds(&catalog, id, 1, 0, text), "{id}");
-        assert!(rt; catalog.find(None, id, 2).is_none());
-        assert!(rt; catalog.find(Some("menu"), id, 1).is_none());
+fn read_with_options<'a>(
+    alloc: Global,
+    given: &'a Value,
+) -> Result<Result<Read, Error>, Wrong<'a>> {
+    let members = object(given)?;
+    let mo = field(given, "mo")?;
+    let script = script_of(alloc, mo)?;
+    let options = match members.get("encoding") {
+        Some(name) => ParseOptions::new().force_encoding(metadata::encoding_of(name)?),
+        None => ParseOptions::new(),
+    };
+    let forced = match members.get("plural") {
+        None => return Ok(by_options(alloc, options, &script, mo.is_string())),
+        Some(Value::String(rule)) => match rule.as_str() {
+            "0" => options.force_plural(first),
+            "1" => options.force_plural(second),
+            "n" => options.force_plural(the_count),
+            "n<2?0:1" => options.force_plural(two_forms),
+            _ => return Err(Wrong::Argument(given, "the plural rule 0, 1, n or n<2?0:1")),
+        },
+        Some(_) => return Err(Wrong::Argument(given, "a plural rule that is a text")),
+    };
+    Ok(by_forced(alloc, forced, &script, mo.is_string()))
+}
+
+/// The catalog of the bytes or of the source, with nothing forced.
+fn whole(alloc: Global, script: &Script) -> Result<Read, Error> {
+    Ok(Read::Plain(Catalog::parse_bytes(alloc, script.bytes())?))
+}
+
+fn by_options(
+    alloc: Global,
+    options: ParseOptions,
+    script: &Script,
+    whole: bool,
+) -> Result<Read, Error> {
+    let catalog = if whole {
+        options.parse_bytes(alloc, script.bytes())?
+    } else {
+        options.parse(alloc, &mut script.source())?
+    };
+    Ok(Read::Plain(catalog))
+}
+
+fn by_forced(
+    alloc: Global,
+    options: ParseOptions<PluralFunction>,
+    script: &Script,
+    whole: bool,
+) -> Result<Read, Error> {
+    let catalog = if whole {
+        options.parse_bytes(alloc, script.bytes())?
+    } else {
+        options.parse(alloc, &mut script.source())?
+    };
+    Ok(Read::Forced(catalog))
+}
+
+fn first(_: u64) -> usize {
+    0
+}
+
+fn second(_: u64) -> usize {
+    1
+}
+
+fn the_count(n: u64) -> usize {
+    n as usize
+}
+
+fn two_forms(n: u64) -> usize {
+    if n < 2 { 0 } else { 1 }
+}
+
+/// A look-up whose answer is a form for a count.
+fn by_file<'a>(alloc: Global, call: &str, catalog: &Catalog, others: &'a [Value]) -> Answer<'a> {
+    let answer = match (call, others) {
+        ("Catalog::find", [context, id, n]) => {
+            let found = catalog.find(optional_text(context)?, text(id)?, number(n)?);
+            form(alloc, found)
+        }
+        ("Catalog::ngettext", [id, plural, n]) => {
+            answers::text(
+                alloc,
+                catalog.ngettext(text(id)?, text(plural)?, number(n)?),
+            )
+        }
+        ("Catalog::npgettext", [context, id, plural, n]) => {
+            let (context, id, plural) = (text(context)?, text(id)?, text(plural)?);
+            answers::text(alloc, catalog.npgettext(context, id, plural, number(n)?))
+        }
+        _ => return of_any(alloc, call, catalog, others),
+    };
+    Ok(answer?)
+}
+
+/// The same of a catalog with a function in place of its file's rule.
+fn by_function<'a>(
+    alloc: Global,
+    call: &str,
+    catalog: &Catalog<PluralFunction>,
+    others: &'a [Value],
+) -> Answer<'a> {
+    let answer = match (call, others) {
+        ("Catalog::find", [context, id, n]) => {
+            let found = catalog.find(optional_text(context)?, text(id)?, number(n)?);
+            form(alloc, found)
+        }
+        ("Catalog::ngettext", [id, plural, n]) => {
+            answers::text(
+                alloc,
+                catalog.ngettext(text(id)?, text(plural)?, number(n)?),
+            )
+        }
+        ("Catalog::npgettext", [context, id, plural, n]) => {
+            let (context, id, plural) = (text(context)?, text(id)?, text(plural)?);
+            answers::text(alloc, catalog.npgettext(context, id, plural, number(n)?))
+        }
+        _ => return of_any(alloc, call, catalog, others),
+    };
+    Ok(answer?)
+}
+
+fn form(alloc: Global, form: Option<Form<'_>>) -> Result<Value, AllocError> {
+    match form {
+        Some(form) => {
+            let text = answers::text(alloc, form.text)?;
+            Ok(
+                Object::new(alloc)
+                    .with("number", answers::size(form.number))?
+                    .with("text", text)?
+                    .value(),
+            )
+        }
+        None => Ok(Value::Null),
     }
-    Ok(())
 }
 
-#[test]
-fn layouts(rt: HostRuntime) -> Result<(), Fail> {
-    let alloc = rt.alloc();
-    let bytes = hex::decode(alloc, SALUT)?;
-    assert_eq!(rt;
-        mo_of(alloc, &[(b"Hi", b"Salut")])?.as_slice(),
-        bytes.as_slice()
-    );
-    let catalog = Catalog::parse_bytes(alloc, &bytes)?;
-    assert_eq!(rt; catalog.form_range(None, "Hi", 0), Some((47, 52)));
-    assert_eq!(rt; catalog.form_range(None, "Hi", 1), None);
-    assert_eq!(rt; catalog.buffer(), bytes.as_slice());
-    Ok(())
+/// A look-up that no count decides.
+fn of_any<'a, P: Drop>(
+    alloc: Global,
+    call: &str,
+    catalog: &Catalog<P>,
+    others: &'a [Value],
+) -> Answer<'a> {
+    let answer = match (call, others) {
+        ("Catalog::buffer", []) => answers::bytes(alloc, catalog.buffer()),
+        ("Catalog::gettext", [id]) => answers::text(alloc, catalog.gettext(text(id)?)),
+        ("Catalog::pgettext", [context, id]) => {
+            answers::text(alloc, catalog.pgettext(text(context)?, text(id)?))
+        }
+        ("Catalog::form_count", [context, id]) => {
+            let count = catalog.form_count(optional_text(context)?, text(id)?);
+            Ok(answers::optional_size(count))
+        }
+        ("Catalog::form_text", [context, id, number]) => {
+            let (context, id) = (optional_text(context)?, text(id)?);
+            answers::optional_text(alloc, catalog.form_text(context, id, size(number)?))
+        }
+        ("Catalog::form_range", [context, id, number]) => {
+            let (context, id) = (optional_text(context)?, text(id)?);
+            range(alloc, catalog.form_range(context, id, size(number)?))
+        }
+        _ => return Err(Wrong::Call),
+    };
+    Ok(answer?)
 }
 
-#[test]
-fn equal_keys(rt: HostRuntime) -> Result<(), Fail> {
-    let alloc = rt.alloc();
-    let bytes = mo_of(
-        alloc,
-        &[
-            (b"Hi", b"Salut"),
-            (b"Text\0Texts", b"Tekstas\0Tekstai"),
-            (b"Hi", b"Bonjour"),
-        ],
-    )?;
-    let catalog = Catalog::parse_bytes(alloc, &bytes)?;
-    assert!(rt; finds(&catalog, "Hi", 1, 0, "Bonjour"));
-    assert!(rt; finds(&catalog, "Text", 1, 0, "Tekstas"));
-    assert!(rt; finds(&catalog, "Text", 0, 1, "Tekstai"));
-    assert!(rt; catalog.find(None, "Texts", 1).is_none());
-    Ok(())
-}
-
-#[test]
-fn no_context(rt: HostRuntime) -> Result<(), Fail> {
-    let alloc = rt.alloc();
-    let bytes = mo_of(alloc, &[(b"Hi\0menu\x04His", b"Salut")])?;
-    let catalog = Catalog::parse_bytes(alloc, &bytes)?;
-    assert!(rt; finds(&catalog, "Hi", 1, 0, "Salut"));
-    assert!(rt; catalog.find(Some("Hi\0menu"), "His", 1).is_none());
-    assert!(rt; catalog.find(Some("menu"), "His", 1).is_none());
-    assert!(rt; catalog.find(Some("menu"), "Hi", 1).is_none());
-    Ok(())
-}
-
-#[test]
-fn empty_catalog(rt: HostRuntime) -> Result<(), Fail> {
-    let empty = Catalog::empty(rt.alloc());
-    assert!(rt; empty.find(None, "Hi", 1).is_none());
-    assert!(rt; empty.find(None, "", 1).is_none());
-    assert_eq!(rt; empty.form_count(None, "Hi"), None);
-    assert!(rt; empty.buffer().is_empty());
-    Ok(())
+/// The place of a text: its first byte, and the first one behind it.
+fn range(alloc: Global, range: Option<(usize, usize)>) -> Result<Value, AllocError> {
+    match range {
+        Some((start, end)) => answers::list(alloc, [answers::size(start), answers::size(end)]),
+        None => Ok(Value::Null),
+    }
 }

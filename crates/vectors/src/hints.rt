@@ -1,122 +1,83 @@
-//! Sums, products and choices of hints.
-use writeable::{LengthHint, sum_hints, sum_lengths};
+//! Calls of length hints. A hint is `[lower, upper]`, and `upper` is null where there is none.
 
-const MAX: usize = usize::MAX;
+use crate::answers;
+use crate::answers::Answer;
+use crate::arguments::{Wrong, list, optional_size, size};
+use serde_json::Value;
+use std::alloc::{AllocError, Global};
+use writeable::{LengthHint, replaced_hint, sum_hints, sum_lengths};
 
-fn undefined() -> LengthHint {
-    LengthHint::undefined()
-}
-
-fn exact(n: usize) -> LengthHint {
-    LengthHint::exact(n)
-}
-
-fn at_least(n: usize) -> LengthHint {
-    LengthHint::at_least(n)
-}
-
-fn at_most(n: usize) -> LengthHint {
-    LengthHint::at_most(n)
-}
-
-fn between(n: usize, m: usize) -> LengthHint {
-    LengthHint::between(n, m)
-}
-
-#[test]
-fn sums(rt: HostRuntime) {
-    let rows = [
-        (exact(3) + exact(2), exact(5)),
-        (exact(3) + undefined(), at_least(3)),
-        (undefined() + exact(2), at_least(2)),
-        (undefined() + undefined(), undefined()),
-        (at_least(15) + exact(3), at_least(18)),
-        (at_least(15) + at_most(3), at_least(15)),
-        (between(MAX - 10, MAX - 5) + exact(20), at_least(MAX)),
-    ];
-    for (sum, want) in rows {
-        assert_eq!(rt; sum, want);
+/// A call of `LengthHint`, by its name.
+pub fn answer<'a>(alloc: Global, call: &str, arguments: &'a [Value]) -> Answer<'a> {
+    match (call, arguments) {
+        ("capacity", [hint]) => Ok(answers::size(hint_of(hint)?.capacity())),
+        ("is_zero", [hint]) => Ok(Value::Bool(hint_of(hint)?.is_zero())),
+        _ => Ok(answers::hint(alloc, made(call, arguments)?)?),
     }
 }
 
-#[test]
-fn sums_of_lengths(rt: HostRuntime) {
-    let rows = [
-        (exact(3) + 2, exact(5)),
-        (undefined() + 2, at_least(2)),
-        (between(48, 92) + 5, between(53, 97)),
-        (sum_lengths(&[4, 1, 1]), exact(6)),
-        (sum_hints(&[exact(4), exact(1), exact(1)]), exact(6)),
-        (
-            sum_hints(&[exact(4), undefined(), at_least(1)]),
-            at_least(5),
-        ),
-        (sum_hints(&[exact(4), undefined(), at_most(1)]), at_least(4)),
-    ];
-    for (sum, want) in rows {
-        assert_eq!(rt; sum, want);
+/// A call that combines hints or lengths, by its name.
+pub fn answer_free<'a>(alloc: Global, call: &str, arguments: &'a [Value]) -> Answer<'a> {
+    let hint = match (call, arguments) {
+        ("sum_hints", [terms]) => sum_hints(&hints_of(alloc, terms)?),
+        ("sum_lengths", [terms]) => sum_lengths(&lengths_of(alloc, terms)?),
+        ("replaced_hint", [source, needle, replacement]) => {
+            replaced_hint(hint_of(source)?, size(needle)?, hint_of(replacement)?)
+        }
+        _ => return Err(Wrong::Call),
+    };
+    Ok(answers::hint(alloc, hint)?)
+}
+
+/// The hint that a call gives.
+fn made<'a>(call: &str, arguments: &'a [Value]) -> Result<LengthHint, Wrong<'a>> {
+    match (call, arguments) {
+        ("undefined", []) => Ok(LengthHint::undefined()),
+        ("exact", [n]) => Ok(LengthHint::exact(size(n)?)),
+        ("at_least", [n]) => Ok(LengthHint::at_least(size(n)?)),
+        ("at_most", [n]) => Ok(LengthHint::at_most(size(n)?)),
+        ("between", [n, m]) => Ok(LengthHint::between(size(n)?, size(m)?)),
+        (_, [left, right]) => combined(call, hint_of(left)?, right),
+        _ => Err(Wrong::Call),
     }
 }
 
-#[test]
-fn products(rt: HostRuntime) {
-    let rows = [
-        (exact(3) * 2, exact(6)),
-        (undefined() * 2, undefined()),
-        (between(48, 92) * 2, between(96, 184)),
-        (between(MAX - 10, MAX - 5) * 2, at_least(MAX)),
-    ];
-    for (product, want) in rows {
-        assert_eq!(rt; product, want);
+/// What an operator gives, by the name of its method.
+fn combined<'a>(call: &str, left: LengthHint, right: &'a Value) -> Result<LengthHint, Wrong<'a>> {
+    let mut left = left;
+    match (call, right) {
+        ("add", Value::Number(_)) => return Ok(left + size(right)?),
+        ("add", _) => return Ok(left + hint_of(right)?),
+        ("mul", _) => return Ok(left * size(right)?),
+        ("bitor", _) => return Ok(left | hint_of(right)?),
+        ("add_assign", Value::Number(_)) => left += size(right)?,
+        ("add_assign", _) => left += hint_of(right)?,
+        ("mul_assign", _) => left *= size(right)?,
+        ("bitor_assign", _) => left |= hint_of(right)?,
+        _ => return Err(Wrong::Call),
+    }
+    Ok(left)
+}
+
+fn hint_of(value: &Value) -> Result<LengthHint, Wrong<'_>> {
+    match list(value)? {
+        [lower, upper] => Ok(LengthHint(size(lower)?, optional_size(upper)?)),
+        _ => Err(Wrong::Argument(value, "a hint, as [1, 2] or [1, null],")),
     }
 }
 
-#[test]
-fn choices(rt: HostRuntime) {
-    let rows = [
-        (exact(3) | exact(2), between(2, 3)),
-        (exact(3) | undefined(), undefined()),
-        (undefined() | undefined(), undefined()),
-        (exact(10) | exact(10), exact(10)),
-        (at_least(15) | exact(3), at_least(3)),
-        (at_least(15) | at_most(18), undefined()),
-        (at_least(15) | at_least(18), at_least(15)),
-        (at_most(15) | at_most(18), at_most(18)),
-        (between(5, 10) | at_most(3), at_most(10)),
-    ];
-    for (choice, want) in rows {
-        assert_eq!(rt; choice, want);
+fn hints_of<'a>(alloc: Global, terms: &'a Value) -> Result<Vec<LengthHint>, Wrong<'a>> {
+    let mut hints = Vec::new(alloc);
+    for term in list(terms)? {
+        hints.push(hint_of(term)?)?;
     }
+    Ok(hints)
 }
 
-#[test]
-fn assignments(rt: HostRuntime) {
-    let mut hint = exact(5);
-    hint += exact(3);
-    assert_eq!(rt; hint, exact(8));
-    hint += 2;
-    assert_eq!(rt; hint, exact(10));
-    hint += undefined();
-    assert_eq!(rt; hint, at_least(10));
-    hint += exact(3);
-    assert_eq!(rt; hint, at_least(13));
-    hint += 2;
-    assert_eq!(rt; hint, at_least(15));
-    hint += undefined();
-    assert_eq!(rt; hint, at_least(15));
-    let mut product = exact(5);
-    product *= 2;
-    assert_eq!(rt; product, exact(10));
-    let mut choice = exact(5);
-    choice |= exact(3);
-    assert_eq!(rt; choice, LengthHint(3, Some(5)));
-}
-
-#[test]
-fn bounds(rt: HostRuntime) {
-    assert_eq!(rt; exact(3).capacity(), 3);
-    assert_eq!(rt; at_least(4).capacity(), 4);
-    assert_eq!(rt; between(7, 5).capacity(), 7);
-    assert!(rt; exact(0).is_zero());
-    assert!(rt; !at_least(0).is_zero());
+fn lengths_of<'a>(alloc: Global, terms: &'a Value) -> Result<Vec<usize>, Wrong<'a>> {
+    let mut lengths = Vec::new(alloc);
+    for term in list(terms)? {
+        lengths.push(size(term)?)?;
+    }
+    Ok(lengths)
 }

@@ -1,7 +1,7 @@
 //! A greeting that writes all of its text, also where its name is wrong.
 ghost use Rattle.std.specs.Prelude.{◌≡◌, ℕ, List, [], ◌∷◌, ◌++◌, false, codes, chars, option_map};
-ghost use Rattle.writeable.specs.Hint.{hint_sum, text_hint, byte_length, Hinted-append, Hinted-exact};
-ghost use Rattle.writeable.specs.Marks.{plain, characters-plain, characters-both, Nests-append, Nests-plain};
+ghost use Rattle.writeable_core.specs.Hint.{hint_sum, text_hint, byte_length, Hinted-append, Hinted-exact};
+ghost use Rattle.writeable_core.specs.Marks.{plain, characters-plain, characters-both, Nests-append, Nests-plain};
 
 use std::alloc::Global;
 use std::process::Abort;
@@ -22,7 +22,7 @@ struct Greeting<N>(N);
 impl<N: TryWriteable> TryWriteable for Greeting<N> {
     type Error = GreetingError;
 
-    ghost use Rattle.vectors.specs.declared.greeting.GreetingError.TheVariants.{NoName};
+    ghost use Rattle.outside.specs.declared.greeting.GreetingError.TheVariants.{NoName};
 
     ghost text = { λ s. (chars (codes "Hello, ") ++ N.text s.0) ++ chars (codes "!") };
 

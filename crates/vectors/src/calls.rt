@@ -1,0 +1,120 @@
+//! Lines and their answers.
+
+use crate::answers::{Answer, Object};
+use crate::arguments::Wrong;
+use crate::{
+    catalogs, expressions, fallback, hints, locales, localising, metadata, program, sinks, sources,
+    tags, texts, tries,
+};
+use serde_json::Value;
+use std::alloc::{AllocError, Global};
+
+/// The answer to a line. A line that is a JSON text is a heading, and is answered by itself.
+pub fn answer_line(alloc: Global, line: &[u8]) -> Result<Value, AllocError> {
+    let line = match Value::from_slice(alloc, line) {
+        Ok(line) => line,
+        Err(error) => {
+            if error.is_memory() {
+                return Err(AllocError);
+            }
+            return wrong(alloc, format!(in alloc; "the line isn't JSON: {error}")?);
+        }
+    };
+    match line {
+        Value::String(heading) => Ok(Value::String(heading)),
+        Value::Array(call) => answer_call(alloc, &call),
+        _ => wrong(
+            alloc,
+            String::from_str(
+                alloc,
+                "the line is to be a JSON array: a call's path, and its arguments",
+            )?,
+        ),
+    }
+}
+
+fn answer_call(alloc: Global, call: &[Value]) -> Result<Value, AllocError> {
+    let [Value::String(path), arguments @ ..] = call else {
+        return wrong(
+            alloc,
+            String::from_str(alloc, "the array's first item is to be a call's path")?,
+        );
+    };
+    match answer(alloc, path.as_str(), arguments) {
+        Ok(answer) => Ok(answer),
+        Err(Wrong::NoMemory) => Err(AllocError),
+        Err(Wrong::Call) => {
+            let count = arguments.len();
+            wrong(
+                alloc,
+                format!(in alloc; "no call is {path} with {count} arguments")?,
+            )
+        }
+        Err(Wrong::Argument(argument, wanted)) => {
+            wrong(
+                alloc,
+                format!(in alloc; "{wanted} is wanted in place of {argument}")?,
+            )
+        }
+        Err(Wrong::Missing(argument, name)) => {
+            wrong(alloc, format!(in alloc; "{argument} has no member {name}")?)
+        }
+        Err(Wrong::Refused(argument, cause)) => {
+            wrong(
+                alloc,
+                format!(in alloc; "{argument} makes no value: {cause}")?,
+            )
+        }
+    }
+}
+
+fn wrong(alloc: Global, words: String) -> Result<Value, AllocError> {
+    Ok(
+        Object::new(alloc)
+            .with("wrong", Value::String(words))?
+            .value(),
+    )
+}
+
+/// The answer to a call, by its library.
+fn answer<'a>(alloc: Global, path: &str, arguments: &'a [Value]) -> Answer<'a> {
+    let (library, call) = path.split_once("::").ok_or(Wrong::Call)?;
+    match library {
+        "writeable" => writeable_call(alloc, call, arguments),
+        "tinystr" => tags::answer(alloc, call, arguments),
+        "icu_locale_core" => locales::answer(alloc, call, arguments),
+        "icu_locale_fallback" => fallback::answer(alloc, call, arguments),
+        "reading" => sources::answer_reading(alloc, call, arguments),
+        "gettext" => gettext_call(alloc, call, arguments),
+        "localise" => localising::answer(alloc, call, arguments),
+        "localise_run" => program::answer(alloc, call, arguments),
+        _ => Err(Wrong::Call),
+    }
+}
+
+/// A call of `writeable`: by a type with calls of its own, or by the value that it is asked of.
+fn writeable_call<'a>(alloc: Global, call: &str, arguments: &'a [Value]) -> Answer<'a> {
+    match call.split_once("::") {
+        Some(("LengthHint", call)) => hints::answer(alloc, call, arguments),
+        Some(("TryWriteable", call)) => tries::answer(alloc, call, arguments),
+        Some(("SliceSource" | "ScriptSource" | "SourceFault", _)) => {
+            sources::answer(alloc, call, arguments)
+        }
+        Some((_, "push" | "text")) => sinks::answer(alloc, call, arguments),
+        None if is_of_hints(call) => hints::answer_free(alloc, call, arguments),
+        _ => texts::answer(alloc, call, arguments),
+    }
+}
+
+fn is_of_hints(call: &str) -> bool {
+    matches!(call, "sum_hints" | "sum_lengths" | "replaced_hint")
+}
+
+fn gettext_call<'a>(alloc: Global, call: &str, arguments: &'a [Value]) -> Answer<'a> {
+    match call.split_once("::") {
+        Some(("Catalog" | "ParseOptions", _)) => catalogs::answer(alloc, call, arguments),
+        Some(("Ast" | "Resolver", _)) => expressions::answer(alloc, call, arguments),
+        _ if call == "default_resolver" => expressions::answer(alloc, call, arguments),
+        _ => metadata::answer(alloc, call, arguments),
+    }
+}

@@ -1,0 +1,124 @@
+//! Calls of sinks. The pieces that are pushed are a list of texts and `{"char": ".."}`; each push is
+//! answered by `Ok` or by the name of its error, and beside them stands what the sink holds.
+
+use crate::answers;
+use crate::answers::{Answer, Object};
+use crate::arguments::{Wrong, character, list, member, number, text};
+use serde_json::Value;
+use std::alloc::{AllocError, Global};
+use writeable::{
+    CountSink, FixedSink, OwnedText, PartsSink, ScriptSink, Sink, SinkError, StringSink, TextList,
+};
+
+/// A call of a sink, or of a list of texts, by its path.
+pub fn answer<'a>(alloc: Global, call: &str, arguments: &'a [Value]) -> Answer<'a> {
+    match (call, arguments) {
+        ("SinkError::text", [name]) => Ok(answers::text(alloc, error_of(name)?.text())?),
+        ("TextList::push", [texts]) => listed(alloc, texts),
+        ("StringSink::push", [pieces]) => {
+            let mut sink = StringSink::new(alloc);
+            let pushes = pushes(alloc, &mut sink, pieces)?;
+            Ok(held(alloc, pushes, sink.as_str())?)
+        }
+        ("PartsSink::push", [pieces]) => {
+            let mut sink = PartsSink::new(alloc);
+            let pushes = pushes(alloc, &mut sink, pieces)?;
+            Ok(held(alloc, pushes, sink.as_str())?)
+        }
+        ("ScriptSink::push", [failing, pieces]) => {
+            let mut sink = ScriptSink::new(alloc, numbers(alloc, failing)?);
+            let pushes = pushes(alloc, &mut sink, pieces)?;
+            Ok(held(alloc, pushes, sink.as_str())?)
+        }
+        ("CountSink::push", [pieces]) => {
+            let mut sink = CountSink::new();
+            let pushes = pushes(alloc, &mut sink, pieces)?;
+            let bytes = answers::number(sink.bytes());
+            Ok(
+                Object::new(alloc)
+                    .with("pushes", pushes)?
+                    .with("bytes", bytes)?
+                    .value(),
+            )
+        }
+        ("FixedSink<4>::push", [pieces]) => fixed::<4>(alloc, pieces),
+        ("FixedSink<64>::push", [pieces]) => fixed::<64>(alloc, pieces),
+        _ => Err(Wrong::Call),
+    }
+}
+
+fn fixed<'a, const N: usize>(alloc: Global, pieces: &'a Value) -> Answer<'a> {
+    let mut sink = FixedSink::<N>::new();
+    let pushes = pushes(alloc, &mut sink, pieces)?;
+    Ok(held(alloc, pushes, sink.as_str())?)
+}
+
+fn held(alloc: Global, pushes: Value, text: &str) -> Result<Value, AllocError> {
+    let text = answers::text(alloc, text)?;
+    Ok(
+        Object::new(alloc)
+            .with("pushes", pushes)?
+            .with("text", text)?
+            .value(),
+    )
+}
+
+/// Pushes the pieces, and lists what each push answered.
+fn pushes<'a, S: Sink>(alloc: Global, sink: &mut S, pieces: &'a Value) -> Answer<'a> {
+    let mut answers = Vec::new(alloc);
+    for piece in list(pieces)? {
+        let pushed = push(sink, piece)?;
+        let name = match pushed {
+            Ok(()) => "Ok",
+            Err(error) => name(error),
+        };
+        answers.push(answers::text(alloc, name)?)?;
+    }
+    Ok(Value::Array(answers))
+}
+
+fn push<'a, S: Sink>(sink: &mut S, piece: &'a Value) -> Result<Result<(), SinkError>, Wrong<'a>> {
+    if let Value::String(text) = piece {
+        return Ok(sink.push_str(text.as_str()));
+    }
+    match member(piece)? {
+        ("char", c) => Ok(sink.push_char(character(c)?)),
+        _ => Err(Wrong::Argument(piece, "a text or a char")),
+    }
+}
+
+pub fn name(error: SinkError) -> &'static str {
+    match error {
+        SinkError::Fault => "Fault",
+        SinkError::NoMemory => "NoMemory",
+    }
+}
+
+fn error_of(given: &Value) -> Result<SinkError, Wrong<'_>> {
+    match text(given)? {
+        "Fault" => Ok(SinkError::Fault),
+        "NoMemory" => Ok(SinkError::NoMemory),
+        _ => Err(Wrong::Argument(given, "the name of an error")),
+    }
+}
+
+/// The numbers of a list.
+pub fn numbers<'a>(alloc: Global, given: &'a Value) -> Result<Vec<u64>, Wrong<'a>> {
+    let mut numbers = Vec::new(alloc);
+    for each in list(given)? {
+        numbers.push(number(each)?)?;
+    }
+    Ok(numbers)
+}
+
+fn listed<'a>(alloc: Global, given: &'a Value) -> Answer<'a> {
+    let mut texts = TextList::new(alloc);
+    for each in list(given)? {
+        texts.push(OwnedText::new(alloc, text(each)?)?)?;
+    }
+    let mut answer = Vec::new(alloc);
+    for text in texts.as_slice() {
+        answer.push(Value::String(text.to_string(alloc)?))?;
+    }
+    Ok(Value::Array(answer))
+}
