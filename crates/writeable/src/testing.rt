@@ -3,10 +3,10 @@
 ghost use Rattle.std.specs.Prelude.{◌≡◌, [], IfOk};
 ghost use Rattle.writeable_sinks.specs.Spans.{Spans};
 
+use std::alloc::{AllocError, Global};
 use writeable_adapters::TryWriteable;
 use writeable_core::Writeable;
 use writeable_sinks::PartsSink;
-use std::alloc::{AllocError, Global};
 
 /// What the value writes: its text, and where its parts lie. It serves tests.
 pub fn writeable_to_parts_for_test<W: Writeable>(

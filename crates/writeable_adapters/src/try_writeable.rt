@@ -11,10 +11,10 @@ ghost use Rattle.writeable_adapters.specs.Outcome.{either_of, error_part};
 ghost use Rattle.writeable_core.specs.declared.length_hint.LengthHint.{LengthHint};
 
 use crate::parts_write_adapter::write_inside;
-use writeable_core::{LengthHint, Part, PartsWrite, Sink, SinkError, StringSink, Writeable};
 use std::alloc::{AllocError, Global};
 use std::borrow::CowStr;
 use std::convert::Infallible;
+use writeable_core::{LengthHint, Part, PartsWrite, Sink, SinkError, StringSink, Writeable};
 
 /// A value that means one text, and may mean an error too. The text is written in both cases: with an
 /// error it is what is to be shown in place of the missing text.

@@ -9,11 +9,11 @@ ghost use Rattle.writeable_cmp.specs.SharingLaws.{Shared-nothing, Shared-both};
 ghost use Rattle.writeable_core.specs.Sink.{TookPrefix, HasCause};
 ghost use Rattle.writeable_core.specs.SinkLaws.{append_held};
 
-use writeable_core::{Sink, SinkError, Writeable};
 use std::alloc::{AllocError, Global};
 use std::borrow::CowStr;
 use std::marker::Model;
 use std::str;
+use writeable_core::{Sink, SinkError, Writeable};
 
 /// The text so far of a sink that looks for it at the front of other bytes.
 #[derive(Drop)]

@@ -6,9 +6,9 @@ ghost use Rattle.writeable_cmp.specs.Comparing.{outcome, decisions, Compared, Co
 ghost use Rattle.writeable_cmp.specs.ComparingLaws.{Compared-nothing, Compared-both};
 ghost use Rattle.writeable_core.specs.Sink.{HasCause};
 
-use writeable_core::{Sink, SinkError, Writeable};
 use std::cmp::Ordering;
 use std::marker::Model;
+use writeable_core::{Sink, SinkError, Writeable};
 
 /// A sink that compares what it takes with other bytes. It faults where the order is decided, so that
 /// nothing more is written; what is written all the same it takes as it is.

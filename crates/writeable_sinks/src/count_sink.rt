@@ -5,8 +5,8 @@ ghost use Rattle.writeable_sinks.specs.CountSink.{Counts};
 ghost use Rattle.writeable_sinks.specs.CountSinkLaws.{Counts-nothing, Counts-both};
 ghost use Rattle.writeable_core.specs.Sink.{TookPrefix, HasCause};
 
-use writeable_core::{Sink, SinkError};
 use std::marker::Model;
+use writeable_core::{Sink, SinkError};
 
 /// A sink that counts the bytes of what it takes, up to the greatest `u64`. It tells no text, takes no
 /// memory and never faults.

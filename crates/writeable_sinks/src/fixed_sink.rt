@@ -7,9 +7,9 @@ ghost use Rattle.writeable_sinks.specs.FixedSink.{Grew};
 ghost use Rattle.writeable_sinks.specs.FixedSinkLaws.{Grew-nothing, Grew-both};
 ghost use Rattle.writeable_core.specs.SinkLaws.{append_held};
 
-use writeable_core::{Sink, SinkError};
 use arrayvec::ArrayString;
 use std::marker::Model;
+use writeable_core::{Sink, SinkError};
 
 /// A sink that holds a text of at most `N` bytes in itself. It takes no memory. A piece that doesn't
 /// fit in what is free is a fault, and nothing of it is taken.

@@ -9,9 +9,9 @@ ghost use Rattle.writeable_sinks.specs.PartsSink.{TookText, TookMarks, no_parts,
 ghost use Rattle.writeable_sinks.specs.PartsSinkLaws.{TookText-nothing, TookText-both, TookMarks-both, TookMarks-held, TookMarks-open, marks_of_text, text_of_marks};
 ghost use Rattle.writeable_sinks.specs.PartsFields.{begun_of};
 
-use writeable_core::{Part, PartsWrite, Sink, SinkError};
 use std::alloc::Global;
 use std::marker::Model;
+use writeable_core::{Part, PartsWrite, Sink, SinkError};
 
 /// A part of a text and the bytes of the text that it spans: from `start` on, up to `end`.
 #[derive(Clone, Copy, Debug)]

@@ -6,9 +6,9 @@ ghost use Rattle.writeable_core.specs.SinkLaws.{append_held};
 ghost use Rattle.writeable_sinks.specs.ScriptSink.{IsNextListed, Wrote};
 ghost use Rattle.writeable_sinks.specs.ScriptSinkLaws.{Wrote-nothing, Wrote-both};
 
-use writeable_core::{Sink, SinkError};
 use std::alloc::Global;
 use std::marker::Model;
+use writeable_core::{Sink, SinkError};
 
 /// A sink that holds a text in memory and fails at the pushes that it is told, counted from one: these
 /// take nothing and answer `Fault`. It serves tests of what happens where a write fails.

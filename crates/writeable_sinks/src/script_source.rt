@@ -3,8 +3,8 @@ ghost use Rattle.std.specs.Io.KnownBytes.{Consumes, Keeps, IsAtEnd};
 ghost use Rattle.writeable_core.specs.Sink.{Rose};
 ghost use Rattle.writeable_sinks.specs.ScriptSource.{ReadScript, FailsNext};
 
-use writeable_core::{Source, SourceFault};
 use std::marker::Model;
+use writeable_core::{Source, SourceFault};
 
 /// A source of the bytes of a slice that gives at most so many bytes a call, and fails at one call. It
 /// serves tests of reads that come in pieces or fail.
