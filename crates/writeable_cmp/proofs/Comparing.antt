@@ -1,6 +1,6 @@
 -- Comparing a text piece by piece.
 use Rattle.std.specs.Prelude.{◌==◌, not, Result, Ok, Err, OnOk, OnErr}
-use Rattle.std.proofs.Common.{◌≡◌, ℕ, zero, suc, ◌≤◌, min, List, [], ◌∷◌, ◌++◌, length, take, drop, refl, ap, sym, ◌∙◌, arith, encode_utf8_all, append-nil, subst, false, true}
+use Rattle.std.proofs.Common.{◌≡◌, ℕ, ◌≤◌, min, List, [], ◌++◌, length, take, drop, refl, ap, sym, ◌∙◌, arith, encode_utf8_all, append-nil, subst, false, true}
 use Rattle.std.proofs.lemmas.Str.{encodes-append}
 use Rattle.std.specs.Ordering.{nat_cmp, ordering_then, ordering_index}
 use Rattle.std.specs.Cmp.Lexicographic.{slice_cmp}

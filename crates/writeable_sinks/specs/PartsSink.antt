@@ -1,5 +1,5 @@
 -- What a contract sees of a `PartsSink`, and how a marked text changes it.
-use Rattle.std.specs.Prelude.{◌≡◌, ℕ, ◌+◌, List, [], ◌∷◌, ◌++◌, Option, Some, None, option_and_then}
+use Rattle.std.specs.Prelude.{◌≡◌, ℕ, List, [], ◌∷◌, ◌++◌, Option, Some, None, option_and_then}
 use Rattle.writeable_core.specs.Hint.{byte_length}
 use Rattle.writeable_core.specs.Marks.{Mark, Character, Open, Close, PartName}
 use Rattle.writeable_sinks.specs.Spans.{Span, span_unless_empty}

@@ -1,5 +1,5 @@
 -- Texts that a `ScriptSink` took, one after another.
-use Rattle.std.specs.Prelude.{ℕ, ◌+◌, ◌-◌, List, [], ◌++◌}
+use Rattle.std.specs.Prelude.{ℕ, List, [], ◌++◌}
 use Rattle.std.proofs.Common.{arith, refl, ◌∙◌}
 use Rattle.writeable_core.specs.SinkLaws.{append_nothing, append_both}
 use Rattle.writeable_sinks.specs.ScriptSink.{Script, Wrote}

@@ -1,10 +1,9 @@
 -- Texts that a `StdSink` took, one after another.
-use Rattle.std.specs.Prelude.{◌≡◌, ℕ, ◌≤◌, List, [], ◌++◌, take, drop, Option, Some, None, encode_utf8_all}
+use Rattle.std.specs.Prelude.{◌≡◌, ℕ, List, [], ◌++◌, take, drop, Option, Some, None, encode_utf8_all}
 use Rattle.std.specs.Io.KnownBytes.{Appends}
 use Rattle.std.proofs.Common.{sym, ap, ◌∙◌, append-nil, append_assoc, subst, arith}
 use Rattle.std.proofs.lemmas.List.{take-append-drop}
 use Rattle.std.proofs.lemmas.Str.{encodes-append}
-use Rattle.writeable_core.specs.Sink.{Rose}
 use Rattle.writeable_sinks.specs.StdSink.{Writing, Writes, WrittenTo}
 
 -- nothing was written

@@ -1,5 +1,5 @@
 -- What the writer took in this turn joins what it took before.
-use Rattle.std.proofs.Common.{sym, ap, ◌∙◌, take, drop, length, length-drop}
+use Rattle.std.proofs.Common.{sym, ap, ◌∙◌, take, drop, length-drop}
 use Rattle.std.proofs.Math.Seq.{take-length}
 use Rattle.writeable_sinks.specs.StdSinkLaws.{WrittenTo-more}
 use Rattle.writeable_sinks.proofs.standard.write_whole.Goals as goal

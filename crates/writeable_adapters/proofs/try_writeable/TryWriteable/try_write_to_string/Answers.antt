@@ -1,5 +1,5 @@
 -- A text whose length is at most 0 is empty.
-use Rattle.std.proofs.Common.{◌≡◌, Some, ap, sym, ◌∙◌, rules, chars, string_bytes}
+use Rattle.std.proofs.Common.{◌≡◌, ap, sym, ◌∙◌, rules, chars, string_bytes}
 use Rattle.writeable_core.specs.HintLaws.{no_characters_by_hint}
 use Rattle.writeable_adapters.proofs.try_writeable.TryWriteable.try_write_to_string.Goals as goal
 

@@ -1,7 +1,7 @@
 -- The text was found at the front, or differs from it.
 use Rattle.std.proofs.Common.{ap, sym, ◌∙◌, take, encode_utf8_all}
 use Rattle.std.proofs.lemmas.Str.{encodes-chars, IsUtf8-from_is_utf8}
-use Rattle.writeable_cmp.specs.SoFar.{text_so_far, IsSoFar}
+use Rattle.writeable_cmp.specs.SoFar.{text_so_far}
 use Rattle.writeable_cmp.proofs.Sharing.{begins_same, found_begins}
 use Rattle.writeable_core.specs.TextLaws.{encodes-chars_of}
 use Rattle.writeable_cmp.proofs.borrow.Sharing.finish.Goals as goal
