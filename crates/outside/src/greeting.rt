@@ -1,7 +1,9 @@
 //! A greeting that writes all of its text, also where its name is wrong.
 ghost use Rattle.std.specs.Prelude.{◌≡◌, ℕ, List, [], ◌∷◌, ◌++◌, false, codes, chars, option_map};
-ghost use Rattle.writeable_core.specs.Hint.{hint_sum, text_hint, byte_length, Hinted-append, Hinted-exact};
-ghost use Rattle.writeable_core.specs.Marks.{plain, characters-plain, characters-both, Nests-append, Nests-plain};
+ghost use Rattle.writeable_core.specs.Hint.{hint_sum, text_hint, byte_length};
+ghost use Rattle.writeable_core.specs.HintLaws.{Hinted-append, Hinted-exact};
+ghost use Rattle.writeable_core.specs.Marks.{plain};
+ghost use Rattle.writeable_core.specs.MarksLaws.{characters-plain, characters-both, Nests-append, Nests-plain};
 
 use std::alloc::Global;
 use std::process::Abort;

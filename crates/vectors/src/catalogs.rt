@@ -6,27 +6,149 @@
 //! `n<2?0:1`. A form is an object of its number and its text. A catalog is answered by its buffer.
 
 use crate::answers::{Answer, Object};
-use crate::arguments::{Wrong, field, number, object, optional_text, size, text};
+use crate::arguments::{Wrong, field, number, optional_text, size, text};
 use crate::sources::{Script, script_of};
 use crate::{answers, metadata};
-use gettext::{Catalog, Error, Form, ParseOptions, PluralFunction};
+use gettext::{Catalog, Encoding, Error, Form, ParseOptions, PluralFunction};
 use serde_json::Value;
 use std::alloc::{AllocError, Global};
 
 /// A call of a catalog or of reading one, by its path.
 pub fn answer<'a>(alloc: Global, call: &str, arguments: &'a [Value]) -> Answer<'a> {
-    match (call, arguments) {
-        ("Catalog::empty", []) => Ok(answers::bytes(alloc, Catalog::empty(alloc).buffer())?),
-        (_, [given]) if is_reading(call) => match read_catalog(alloc, given)? {
-            Ok(catalog) => Ok(answers::bytes(alloc, catalog.buffer())?),
-            Err(error) => metadata::refused(alloc, error),
-        },
-        (_, [given, others @ ..]) => match read_catalog(alloc, given)? {
-            Ok(Read::Plain(catalog)) => by_file(alloc, call, &catalog, others),
-            Ok(Read::Forced(catalog)) => by_function(alloc, call, &catalog, others),
-            Err(error) => Err(metadata::unread(given, error)),
-        },
+    match arguments {
+        [] if call == "Catalog::empty" => {
+            Ok(answers::bytes(alloc, Catalog::empty(alloc).buffer())?)
+        }
+        [Value::Null, others @ ..] => by_file(alloc, call, &Catalog::empty(alloc), others),
+        [given, others @ ..] => {
+            let reading = reading_of(alloc, given)?;
+            match reading.rule {
+                Some(rule) => read_with_rule(alloc, call, given, &reading, rule, others),
+                None => read(alloc, call, given, &reading, others),
+            }
+        }
         _ => Err(Wrong::Call),
+    }
+}
+
+/// How a catalog is read.
+#[derive(Drop)]
+struct Reading {
+    script: Script,
+    /// Whether the bytes are given whole, and not by a source.
+    whole: bool,
+    encoding: Option<Encoding>,
+    rule: Option<Rule>,
+}
+
+/// A function that is forced, by the expression that it stands for.
+#[derive(Clone, Copy)]
+enum Rule {
+    Zero,
+    One,
+    Count,
+    TwoForms,
+}
+
+/// How the catalog that an argument is is read.
+fn reading_of<'a>(alloc: Global, given: &'a Value) -> Result<Reading, Wrong<'a>> {
+    if given.is_string() {
+        return Ok(Reading {
+            script: script_of(alloc, given)?,
+            whole: true,
+            encoding: None,
+            rule: None,
+        });
+    }
+    let mo = field(given, "mo")?;
+    Ok(Reading {
+        script: script_of(alloc, mo)?,
+        whole: mo.is_string(),
+        encoding: encoding_in(given)?,
+        rule: rule_in(given)?,
+    })
+}
+
+fn encoding_in(given: &Value) -> Result<Option<Encoding>, Wrong<'_>> {
+    match given.get("encoding") {
+        Some(name) => Ok(Some(metadata::encoding_of(name)?)),
+        None => Ok(None),
+    }
+}
+
+fn rule_in(given: &Value) -> Result<Option<Rule>, Wrong<'_>> {
+    let Some(rule) = given.get("plural") else {
+        return Ok(None);
+    };
+    match text(rule)? {
+        "0" => Ok(Some(Rule::Zero)),
+        "1" => Ok(Some(Rule::One)),
+        "n" => Ok(Some(Rule::Count)),
+        "n<2?0:1" => Ok(Some(Rule::TwoForms)),
+        _ => Err(Wrong::Argument(rule, "the plural rule 0, 1, n or n<2?0:1")),
+    }
+}
+
+impl Reading {
+    fn options(&self) -> ParseOptions {
+        match self.encoding {
+            Some(encoding) => ParseOptions::new().force_encoding(encoding),
+            None => ParseOptions::new(),
+        }
+    }
+}
+
+/// The answer of the catalog with its file's plural rule.
+fn read<'a>(
+    alloc: Global,
+    call: &str,
+    given: &'a Value,
+    reading: &Reading,
+    others: &'a [Value],
+) -> Answer<'a> {
+    let catalog = if reading.whole {
+        reading.options().parse_bytes(alloc, reading.script.bytes())
+    } else {
+        reading.options().parse(alloc, &mut reading.script.source())
+    };
+    match catalog {
+        Ok(catalog) => by_file(alloc, call, &catalog, others),
+        Err(error) => unread(alloc, call, given, error),
+    }
+}
+
+/// The answer of the catalog with a function in the place of its file's rule.
+fn read_with_rule<'a>(
+    alloc: Global,
+    call: &str,
+    given: &'a Value,
+    reading: &Reading,
+    rule: Rule,
+    others: &'a [Value],
+) -> Answer<'a> {
+    let options = match rule {
+        Rule::Zero => reading.options().force_plural(first),
+        Rule::One => reading.options().force_plural(second),
+        Rule::Count => reading.options().force_plural(the_count),
+        Rule::TwoForms => reading.options().force_plural(two_forms),
+    };
+    let catalog = if reading.whole {
+        options.parse_bytes(alloc, reading.script.bytes())
+    } else {
+        options.parse(alloc, &mut reading.script.source())
+    };
+    match catalog {
+        Ok(catalog) => by_function(alloc, call, &catalog, others),
+        Err(error) => unread(alloc, call, given, error),
+    }
+}
+
+/// A refusal to read is the answer where reading is the call.
+fn unread<'a>(alloc: Global, call: &str, given: &'a Value, error: Error) -> Answer<'a> {
+    if is_reading(call) {
+        metadata::refused(alloc, error)
+    } else {
+        Err(metadata::unread(given, error))
     }
 }
 
@@ -38,89 +160,6 @@ fn is_reading(call: &str) -> bool {
             | "ParseOptions::parse"
             | "ParseOptions::parse_bytes"
     )
-}
-
-/// A catalog with its file's plural rule, or with a function in its place.
-#[derive(Drop)]
-enum Read {
-    Plain(Catalog),
-    Forced(Catalog<PluralFunction>),
-}
-
-impl Read {
-    fn buffer(&self) -> &[u8] {
-        match self {
-            Read::Plain(catalog) => catalog.buffer(),
-            Read::Forced(catalog) => catalog.buffer(),
-        }
-    }
-}
-
-/// The catalog that an argument is.
-fn read_catalog<'a>(alloc: Global, given: &'a Value) -> Result<Result<Read, Error>, Wrong<'a>> {
-    match given {
-        Value::Null => Ok(Ok(Read::Plain(Catalog::empty(alloc)))),
-        Value::String(_) => Ok(whole(alloc, &script_of(alloc, given)?)),
-        _ => read_with_options(alloc, given),
-    }
-}
-
-fn read_with_options<'a>(
-    alloc: Global,
-    given: &'a Value,
-) -> Result<Result<Read, Error>, Wrong<'a>> {
-    let members = object(given)?;
-    let mo = field(given, "mo")?;
-    let script = script_of(alloc, mo)?;
-    let options = match members.get("encoding") {
-        Some(name) => ParseOptions::new().force_encoding(metadata::encoding_of(name)?),
-        None => ParseOptions::new(),
-    };
-    let forced = match members.get("plural") {
-        None => return Ok(by_options(alloc, options, &script, mo.is_string())),
-        Some(Value::String(rule)) => match rule.as_str() {
-            "0" => options.force_plural(first),
-            "1" => options.force_plural(second),
-            "n" => options.force_plural(the_count),
-            "n<2?0:1" => options.force_plural(two_forms),
-            _ => return Err(Wrong::Argument(given, "the plural rule 0, 1, n or n<2?0:1")),
-        },
-        Some(_) => return Err(Wrong::Argument(given, "a plural rule that is a text")),
-    };
-    Ok(by_forced(alloc, forced, &script, mo.is_string()))
-}
-
-/// The catalog of the bytes or of the source, with nothing forced.
-fn whole(alloc: Global, script: &Script) -> Result<Read, Error> {
-    Ok(Read::Plain(Catalog::parse_bytes(alloc, script.bytes())?))
-}
-
-fn by_options(
-    alloc: Global,
-    options: ParseOptions,
-    script: &Script,
-    whole: bool,
-) -> Result<Read, Error> {
-    let catalog = if whole {
-        options.parse_bytes(alloc, script.bytes())?
-    } else {
-        options.parse(alloc, &mut script.source())?
-    };
-    Ok(Read::Plain(catalog))
-}
-
-fn by_forced(
-    alloc: Global,
-    options: ParseOptions<PluralFunction>,
-    script: &Script,
-    whole: bool,
-) -> Result<Read, Error> {
-    let catalog = if whole {
-        options.parse_bytes(alloc, script.bytes())?
-    } else {
-        options.parse(alloc, &mut script.source())?
-    };
-    Ok(Read::Forced(catalog))
 }
 
 fn first(_: u64) -> usize {
@@ -211,7 +250,9 @@ fn of_any<'a, P: Drop>(
     others: &'a [Value],
 ) -> Answer<'a> {
     let answer = match (call, others) {
-        ("Catalog::buffer", []) => answers::bytes(alloc, catalog.buffer()),
+        (_, []) if call == "Catalog::buffer" || is_reading(call) => {
+            answers::bytes(alloc, catalog.buffer())
+        }
         ("Catalog::gettext", [id]) => answers::text(alloc, catalog.gettext(text(id)?)),
         ("Catalog::pgettext", [context, id]) => {
             answers::text(alloc, catalog.pgettext(text(context)?, text(id)?))

@@ -19,20 +19,21 @@ pub fn answer<'a>(alloc: Global, call: &str, arguments: &'a [Value]) -> Answer<'
             Err(error) => metadata::refused(alloc, error),
         },
         ("Resolver::resolve", [given, n]) => {
-            let resolver = resolver(alloc, given)?;
-            Ok(answers::optional_size(resolver.resolve(number(n)?)))
+            let value = resolved(alloc, given, number(n)?)?;
+            Ok(answers::optional_size(value))
         }
         ("default_resolver", [n]) => Ok(answers::size(default_resolver(number(n)?))),
         _ => Err(Wrong::Call),
     }
 }
 
-fn resolver<'a>(alloc: Global, given: &'a Value) -> Result<Resolver, Wrong<'a>> {
+/// What the resolver that an argument is makes of a count.
+fn resolved<'a>(alloc: Global, given: &'a Value, n: u64) -> Result<Option<usize>, Wrong<'a>> {
     match given {
-        Value::Null => Ok(Resolver::Default),
-        Value::Object(_) => Ok(Resolver::Function(PluralFunction::new(two_forms))),
+        Value::Null => Ok(Resolver::Default.resolve(n)),
+        Value::Object(_) => Ok(Resolver::Function(PluralFunction::new(two_forms)).resolve(n)),
         _ => match Ast::parse(alloc, text(given)?) {
-            Ok(ast) => Ok(Resolver::Expr(ast)),
+            Ok(ast) => Ok(Resolver::Expr(ast).resolve(n)),
             Err(error) => Err(metadata::unread(given, error)),
         },
     }
