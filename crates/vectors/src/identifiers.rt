@@ -63,7 +63,7 @@ fn of_one<'a>(alloc: Global, call: &str, mut identifier: LanguageIdentifier) -> 
         "LanguageIdentifier::to_string" => printed(alloc, &identifier),
         "LanguageIdentifier::to_json" => identifier.to_json(alloc),
         "LanguageIdentifier::try_clone" => printed(alloc, &identifier.try_clone(alloc)?),
-        "LanguageIdentifier::variants" => texts(alloc, identifier.variants()),
+        "LanguageIdentifier::variants" => variants(alloc, &identifier),
         "VariantsIter::len" => Ok(answers::size(identifier.variants().len())),
         "LanguageIdentifier::into_parts" => parts(alloc, identifier),
         "LanguageIdentifier::clear_variants" => {
@@ -97,11 +97,14 @@ fn of_value<'a>(
     match call {
         "LanguageIdentifier::eq_str" => Ok(Value::Bool(identifier.eq_str(text(given)?))),
         "LanguageIdentifier::has_variant" => {
-            let variant = subtags::made(given)?;
+            let Some(variant) = subtags::variant_of(given) else {
+                return Err(Wrong::Argument(given, "a variant"));
+            };
             Ok(Value::Bool(identifier.has_variant(variant)))
         }
         "LanguageIdentifier::set_variants" => {
-            identifier.set_variants(&variants_of(alloc, given)?)?;
+            let variants = variants_of(alloc, given)?;
+            identifier.set_variants(&variants)?;
             Ok(printed(alloc, &identifier)?)
         }
         _ => Err(Wrong::Call),
@@ -111,18 +114,23 @@ fn of_value<'a>(
 fn parts(alloc: Global, identifier: LanguageIdentifier) -> Result<Value, AllocError> {
     let (language, script, region, variants) = identifier.into_parts();
     let language = answers::text(alloc, language.as_str())?;
-    let script = subtags::optional_text(alloc, script)?;
-    let region = subtags::optional_text(alloc, region)?;
-    let variants = texts(alloc, variants.iter())?;
+    let script = subtags::text_or_null(alloc, script)?;
+    let region = subtags::text_or_null(alloc, region)?;
+    let variants = texts(alloc, variants.as_slice())?;
     answers::list(alloc, [language, script, region, variants])
 }
 
-fn texts<'a, I: Iterator<Item = &'a Variant> + Drop>(
-    alloc: Global,
-    variants: I,
-) -> Result<Value, AllocError> {
+fn texts(alloc: Global, variants: &[Variant]) -> Result<Value, AllocError> {
     let mut texts = Vec::new(alloc);
     for variant in variants {
+        texts.push(answers::text(alloc, variant.as_str())?)?;
+    }
+    Ok(Value::Array(texts))
+}
+
+fn variants(alloc: Global, identifier: &LanguageIdentifier) -> Result<Value, AllocError> {
+    let mut texts = Vec::new(alloc);
+    for variant in identifier.variants() {
         texts.push(answers::text(alloc, variant.as_str())?)?;
     }
     Ok(Value::Array(texts))

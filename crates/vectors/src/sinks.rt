@@ -1,6 +1,8 @@
 //! Calls of sinks. The pieces that are pushed are a list of texts and `{"char": ".."}`; each push is
 //! answered by `Ok` or by the name of its error, and beside them stands what the sink holds.
 
+ghost use Rattle.std.specs.Prelude.{◌≤◌};
+
 use crate::answers;
 use crate::answers::{Answer, Object};
 use crate::arguments::{Wrong, character, list, member, number, text};
@@ -47,7 +49,9 @@ pub fn answer<'a>(alloc: Global, call: &str, arguments: &'a [Value]) -> Answer<'
     }
 }
 
-fn fixed<'a, const N: usize>(alloc: Global, pieces: &'a Value) -> Answer<'a> {
+fn fixed<'a, const N: usize>(alloc: Global, pieces: &'a Value) -> Answer<'a>
+    requires { N ≤ 64 }
+{
     let mut sink = FixedSink::<N>::new();
     let pushes = pushes(alloc, &mut sink, pieces)?;
     Ok(held(alloc, pushes, sink.as_str())?)

@@ -3,6 +3,7 @@
 //! Tables are an object of `lang_only`, `lang_region`, `lang_script`, `script_region`,
 //! `script_only` and `region_only`, each a list of rows of texts; one that is left out is empty.
 
+use super::making::without_variants;
 use super::subtags;
 use crate::answers;
 use crate::answers::Answer;
@@ -11,7 +12,6 @@ use crate::locales::printed;
 use serde_json::Value;
 use std::alloc::{AllocError, Global};
 use unic_langid_impl::likelysubtags::{maximize, minimize};
-use unic_langid_impl::subtags::{Language, Region, Script};
 use unic_langid_impl::{
     CharacterDirection, LanguageIdentifier, LikelyError, LikelyRows, LikelyTables,
 };
@@ -20,15 +20,13 @@ use unic_langid_impl::{
 pub fn answer<'a>(alloc: Global, call: &str, arguments: &'a [Value]) -> Answer<'a> {
     match (call, arguments) {
         ("LikelyTables::try_new", [tables]) => tried(alloc, tables),
-        ("likelysubtags::maximize", [tables, others @ ..]) => {
-            let (language, script, region) = triple_of(others)?;
+        (
+            "likelysubtags::maximize" | "likelysubtags::minimize",
+            [tables, language, script, region],
+        ) => {
+            let identifier = without_variants(alloc, language, script, region)?;
             let tables = tables_of(alloc, tables)?;
-            Ok(triple(alloc, maximize(&tables, language, script, region))?)
-        }
-        ("likelysubtags::minimize", [tables, others @ ..]) => {
-            let (language, script, region) = triple_of(others)?;
-            let tables = tables_of(alloc, tables)?;
-            Ok(triple(alloc, minimize(&tables, language, script, region))?)
+            Ok(form(alloc, call, &tables, identifier)?)
         }
         _ => Err(Wrong::Call),
     }
@@ -66,28 +64,24 @@ fn direction(alloc: Global, direction: CharacterDirection) -> Result<Value, Allo
     answers::text(alloc, name)
 }
 
-/// A language, a script and a region.
-type Triple = (Language, Option<Script>, Option<Region>);
-
-fn triple_of(arguments: &[Value]) -> Result<Triple, Wrong<'_>> {
-    let [language, script, region] = arguments else {
-        return Err(Wrong::Call);
+/// The maximal or minimal form of an identifier's subtags, or null.
+fn form(
+    alloc: Global,
+    call: &str,
+    tables: &LikelyTables,
+    identifier: LanguageIdentifier,
+) -> Result<Value, AllocError> {
+    let (language, script, region, _) = identifier.into_parts();
+    let form = match call {
+        "likelysubtags::maximize" => maximize(tables, language, script, region),
+        _ => minimize(tables, language, script, region),
     };
-    Ok((
-        subtags::made(language)?,
-        subtags::optional(script)?,
-        subtags::optional(region)?,
-    ))
-}
-
-/// The texts, or null.
-fn triple(alloc: Global, found: Option<Triple>) -> Result<Value, AllocError> {
-    let Some((language, script, region)) = found else {
+    let Some((language, script, region)) = form else {
         return Ok(Value::Null);
     };
     let language = answers::text(alloc, language.as_str())?;
-    let script = subtags::optional_text(alloc, script)?;
-    let region = subtags::optional_text(alloc, region)?;
+    let script = subtags::text_or_null(alloc, script)?;
+    let region = subtags::text_or_null(alloc, region)?;
     answers::list(alloc, [language, script, region])
 }
 

@@ -21,11 +21,35 @@ pub fn made<'a>(alloc: Global, given: &'a Value) -> Result<LanguageIdentifier, W
     })
 }
 
+/// The identifier of a language and, where they aren't null, a script and a region.
+pub fn without_variants<'a>(
+    alloc: Global,
+    language: &'a Value,
+    script: &'a Value,
+    region: &'a Value,
+) -> Result<LanguageIdentifier, Wrong<'a>> {
+    let Some(language) = subtags::language_of(language) else {
+        return Err(Wrong::Argument(language, "a language"));
+    };
+    let Some(script) = subtags::script_of(script) else {
+        return Err(Wrong::Argument(script, "a script, or null,"));
+    };
+    let Some(region) = subtags::region_of(region) else {
+        return Err(Wrong::Argument(region, "a region, or null,"));
+    };
+    LanguageIdentifier::from_parts(alloc, language, script, region, &[]).map_err(
+        |_| Wrong::NoMemory,
+    )
+}
+
 /// The variants that these texts are.
 pub fn variants_of<'a>(alloc: Global, given: &'a Value) -> Result<Vec<Variant>, Wrong<'a>> {
     let mut variants = Vec::new(alloc);
-    for variant in list(given)? {
-        variants.push(subtags::made(variant)?)?;
+    for given in list(given)? {
+        let Some(variant) = subtags::variant_of(given) else {
+            return Err(Wrong::Argument(given, "a variant"));
+        };
+        variants.push(variant)?;
     }
     Ok(variants)
 }
@@ -61,8 +85,9 @@ pub fn answer<'a>(alloc: Global, call: &str, arguments: &'a [Value]) -> Answer<'
             "LanguageIdentifier::from_parts" | "LanguageIdentifier::from_raw_parts",
             [language, script, region, variants],
         ) => {
+            let identifier = without_variants(alloc, language, script, region)?;
             let variants = variants_of(alloc, variants)?;
-            of_parts(alloc, call, [language, script, region], variants)
+            Ok(outcome(alloc, of_parts(alloc, call, identifier, variants))?)
         }
         _ => Err(Wrong::Call),
     }
@@ -107,23 +132,20 @@ fn of_json(alloc: Global, given: &Value) -> Result<Value, AllocError> {
     }
 }
 
-fn of_parts<'a>(
+/// The identifier of another one's subtags and these variants.
+fn of_parts(
     alloc: Global,
     call: &str,
-    others: [&'a Value; 3],
+    identifier: LanguageIdentifier,
     variants: Vec<Variant>,
-) -> Answer<'a> {
-    let [language, script, region] = others;
-    let language = subtags::made(language)?;
-    let script = subtags::optional(script)?;
-    let region = subtags::optional(region)?;
-    let read = match call {
+) -> Result<LanguageIdentifier, LanguageIdentifierError> {
+    let (language, script, region, _) = identifier.into_parts();
+    match call {
         "LanguageIdentifier::from_parts" => {
             LanguageIdentifier::from_parts(alloc, language, script, region, &variants)
         }
         _ => LanguageIdentifier::from_raw_parts(language, script, region, variants),
-    };
-    Ok(outcome(alloc, read)?)
+    }
 }
 
 /// The pieces, or the first of them.
@@ -191,7 +213,10 @@ fn pieces_of<'a>(given: &Value, bytes: &'a [u8]) -> SubtagPieces<'a> {
 /// The pieces that are left, each as its text.
 fn left<'a>(alloc: Global, given: &'a Value, pieces: &mut SubtagPieces<'_>) -> Answer<'a> {
     let mut texts = Vec::new(alloc);
-    while let Some(piece) = pieces.next() {
+    for _ in 0..u64::MAX {
+        let Some(piece) = pieces.next() else {
+            break;
+        };
         texts.push(piece_text(alloc, given, piece)?)?;
     }
     Ok(Value::Array(texts))

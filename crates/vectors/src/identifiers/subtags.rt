@@ -22,21 +22,34 @@ pub fn answer<'a>(alloc: Global, call: &str, arguments: &'a [Value]) -> Answer<'
     }
 }
 
-/// The subtag that this text is.
-pub fn made<T: Subtag>(given: &Value) -> Result<T, Wrong<'_>> {
-    T::read(text(given)?.as_bytes()).map_err(|error| errors::unread(given, error))
+/// The language that this text is.
+pub fn language_of(given: &Value) -> Option<Language> {
+    Language::from_bytes(given.as_str()?.as_bytes()).ok()
 }
 
-/// The subtag that this text is, or none for null.
-pub fn optional<T: Subtag>(given: &Value) -> Result<Option<T>, Wrong<'_>> {
-    match given {
-        Value::Null => Ok(None),
-        _ => Ok(Some(made(given)?)),
+/// The script that this text is, or none for null.
+pub fn script_of(given: &Value) -> Option<Option<Script>> {
+    if given.is_null() {
+        return Some(None);
     }
+    Some(Some(Script::from_bytes(given.as_str()?.as_bytes()).ok()?))
+}
+
+/// The region that this text is, or none for null.
+pub fn region_of(given: &Value) -> Option<Option<Region>> {
+    if given.is_null() {
+        return Some(None);
+    }
+    Some(Some(Region::from_bytes(given.as_str()?.as_bytes()).ok()?))
+}
+
+/// The variant that this text is.
+pub fn variant_of(given: &Value) -> Option<Variant> {
+    Variant::from_bytes(given.as_str()?.as_bytes()).ok()
 }
 
 /// The text, or null.
-pub fn optional_text<T: Subtag>(alloc: Global, found: Option<T>) -> Result<Value, AllocError> {
+pub fn text_or_null<T: Subtag>(alloc: Global, found: Option<T>) -> Result<Value, AllocError> {
     match found {
         Some(subtag) => answers::text(alloc, subtag.name()),
         None => Ok(Value::Null),
@@ -147,26 +160,46 @@ impl Subtag for Variant {
 fn language<'a>(alloc: Global, call: &str, arguments: &'a [Value]) -> Answer<'a> {
     match (call, arguments) {
         ("default", []) => Ok(answers::text(alloc, Language::default().as_str())?),
-        ("try_from_option", [Value::Null]) => {
-            Ok(outcome(alloc, Language::try_from_option(None))?)
-        }
+        ("try_from_option", [Value::Null]) => Ok(outcome(alloc, Language::try_from_option(None))?),
         ("try_from_option", [given]) => {
             let bytes = bytes(alloc, given)?;
             Ok(outcome(alloc, Language::try_from_option(Some(&bytes)))?)
         }
-        ("is_empty", [given]) => Ok(Value::Bool(made::<Language>(given)?.is_empty())),
-        ("clear", [given]) => {
-            let mut language: Language = made(given)?;
-            language.clear();
-            Ok(answers::text(alloc, language.as_str())?)
+        ("is_empty" | "clear", [given]) => {
+            let Some(language) = language_of(given) else {
+                return Err(Wrong::Argument(given, "a language"));
+            };
+            Ok(emptiness(alloc, call, language)?)
         }
         ("matches", [left, right, left_as_range, right_as_range]) => {
-            let left: Language = made(left)?;
-            let matches = left.matches(made(right)?, flag(left_as_range)?, flag(right_as_range)?);
-            Ok(Value::Bool(matches))
+            languages_match(left, right, flag(left_as_range)?, flag(right_as_range)?)
         }
         _ => of_subtag::<Language>(alloc, call, arguments),
     }
+}
+
+/// Whether a language is none, or what is left of it when it is cleared.
+fn emptiness(alloc: Global, call: &str, mut language: Language) -> Result<Value, AllocError> {
+    if call == "is_empty" {
+        return Ok(Value::Bool(language.is_empty()));
+    }
+    language.clear();
+    answers::text(alloc, language.as_str())
+}
+
+fn languages_match<'a>(
+    left: &'a Value,
+    right: &'a Value,
+    left_as_range: bool,
+    right_as_range: bool,
+) -> Answer<'a> {
+    let Some(left) = language_of(left) else {
+        return Err(Wrong::Argument(left, "a language"));
+    };
+    let Some(right) = language_of(right) else {
+        return Err(Wrong::Argument(right, "a language"));
+    };
+    Ok(Value::Bool(left.matches(right, left_as_range, right_as_range)))
 }
 
 fn of_subtag<'a, T: Subtag>(alloc: Global, call: &str, arguments: &'a [Value]) -> Answer<'a> {
@@ -204,4 +237,9 @@ fn of_two<'a, T: Subtag>(alloc: Global, call: &str, subtag: &T, other: &'a Value
         "cmp" => Ok(answers::ordering(alloc, subtag.cmp(&made::<T>(other)?))?),
         _ => Err(Wrong::Call),
     }
+}
+
+/// The subtag that this text is.
+fn made<T: Subtag>(given: &Value) -> Result<T, Wrong<'_>> {
+    T::read(text(given)?.as_bytes()).map_err(|error| errors::unread(given, error))
 }
