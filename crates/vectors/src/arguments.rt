@@ -4,6 +4,7 @@ use hex::FromHexError;
 use serde_json::{Map, Value};
 use std::alloc::{AllocError, AllocFailed, Global};
 use std::str::FromStr;
+use writeable::{OwnedText, TextRow};
 
 /// Why a line has no answer.
 #[derive(Drop)]
@@ -58,6 +59,11 @@ pub fn number(value: &Value) -> Result<u64, Wrong<'_>> {
         .ok_or(Wrong::Argument(value, "a whole number"))
 }
 
+/// A number of at most 32 bits.
+pub fn short_number(value: &Value) -> Result<u32, Wrong<'_>> {
+    u32::try_from(number(value)?).map_err(|_| Wrong::Argument(value, "a number of 32 bits"))
+}
+
 /// A length or an index.
 pub fn size(value: &Value) -> Result<usize, Wrong<'_>> {
     Ok(number(value)? as usize)
@@ -88,6 +94,12 @@ pub fn bytes(alloc: Global, value: &Value) -> Result<Vec<u8>, Wrong<'_>> {
     }
 }
 
+pub fn flag(value: &Value) -> Result<bool, Wrong<'_>> {
+    value
+        .as_bool()
+        .ok_or(Wrong::Argument(value, "true or false"))
+}
+
 pub fn list(value: &Value) -> Result<&[Value], Wrong<'_>> {
     match value {
         Value::Array(items) => Ok(items.as_slice()),
@@ -111,4 +123,34 @@ pub fn member(value: &Value) -> Result<(&str, &Value), Wrong<'_>> {
         (Some((name, inner)), None) => Ok((name.as_str(), inner)),
         _ => Err(Wrong::Argument(value, "an object of one member")),
     }
+}
+
+/// The rows of the table with this name. A table that is left out is empty.
+pub fn table<'a>(
+    alloc: Global,
+    tables: &'a Map<String, Value>,
+    name: &str,
+) -> Result<Vec<TextRow>, Wrong<'a>> {
+    let mut rows = Vec::new(alloc);
+    let Some(given) = tables.get(name) else {
+        return Ok(rows);
+    };
+    for row in list(given)? {
+        rows.push(text_row(alloc, row)?)?;
+    }
+    Ok(rows)
+}
+
+/// A row of two or three texts.
+fn text_row<'a>(alloc: Global, given: &'a Value) -> Result<TextRow, Wrong<'a>> {
+    let (first, second, third) = match list(given)? {
+        [first, second] => (text(first)?, text(second)?, ""),
+        [first, second, third] => (text(first)?, text(second)?, text(third)?),
+        _ => return Err(Wrong::Argument(given, "a row of two or three texts")),
+    };
+    Ok(TextRow {
+        first: OwnedText::new(alloc, first)?,
+        second: OwnedText::new(alloc, second)?,
+        third: OwnedText::new(alloc, third)?,
+    })
 }

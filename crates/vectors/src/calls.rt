@@ -3,8 +3,8 @@
 use crate::answers::{Answer, Object};
 use crate::arguments::Wrong;
 use crate::{
-    catalogs, expressions, fallback, hints, locales, localising, metadata, program, sinks, sources,
-    tags, texts, tries,
+    catalogs, expressions, fallback, hints, identifiers, locales, localising, metadata, program,
+    sinks, sources, tags, texts, tries,
 };
 use serde_json::Value;
 use std::alloc::{AllocError, Global};
@@ -84,6 +84,7 @@ fn answer<'a>(alloc: Global, path: &str, arguments: &'a [Value]) -> Answer<'a> {
         "tinystr" => tags::answer(alloc, call, arguments),
         "icu_locale_core" => locales::answer(alloc, call, arguments),
         "icu_locale_fallback" => fallback::answer(alloc, call, arguments),
+        "unic_langid_impl" => identifiers::answer(alloc, call, arguments),
         "reading" => sources::answer_reading(alloc, call, arguments),
         "gettext" => gettext_call(alloc, call, arguments),
         "localise" => localising::answer(alloc, call, arguments),

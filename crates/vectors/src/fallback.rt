@@ -5,7 +5,7 @@
 //! A walk is the texts of its locales, to the unknown one or up to a number of steps.
 
 use crate::answers::{Answer, Object};
-use crate::arguments::{Wrong, list, number, object, text};
+use crate::arguments::{Wrong, number, object, table, text};
 use crate::locales::printed;
 use crate::{answers, locales};
 use icu_locale_core::DataLocale;
@@ -13,9 +13,8 @@ use icu_locale_fallback::{
     FallbackRows, LocaleFallbackConfig, LocaleFallbackIterator, LocaleFallbackPriority,
     LocaleFallbacker, LocaleFallbackerWithConfig, TableError,
 };
-use serde_json::{Map, Value};
+use serde_json::Value;
 use std::alloc::{AllocError, Global};
-use writeable::{OwnedText, TextRow};
 
 /// A call of `icu_locale_fallback`, by its path.
 pub fn answer<'a>(alloc: Global, call: &str, arguments: &'a [Value]) -> Answer<'a> {
@@ -190,35 +189,5 @@ fn rows<'a>(alloc: Global, tables: &'a Value) -> Result<FallbackRows, Wrong<'a>>
         likely_language_script: table(alloc, tables, "likely_language_script")?,
         likely_language_region: table(alloc, tables, "likely_language_region")?,
         parents: table(alloc, tables, "parents")?,
-    })
-}
-
-/// The rows of the table with this name. A table that is left out is empty.
-fn table<'a>(
-    alloc: Global,
-    tables: &'a Map<String, Value>,
-    name: &str,
-) -> Result<Vec<TextRow>, Wrong<'a>> {
-    let mut rows = Vec::new(alloc);
-    let Some(given) = tables.get(name) else {
-        return Ok(rows);
-    };
-    for row in list(given)? {
-        rows.push(text_row(alloc, row)?)?;
-    }
-    Ok(rows)
-}
-
-/// A row of two or three texts.
-fn text_row<'a>(alloc: Global, given: &'a Value) -> Result<TextRow, Wrong<'a>> {
-    let (first, second, third) = match list(given)? {
-        [first, second] => (text(first)?, text(second)?, ""),
-        [first, second, third] => (text(first)?, text(second)?, text(third)?),
-        _ => return Err(Wrong::Argument(given, "a row of two or three texts")),
-    };
-    Ok(TextRow {
-        first: OwnedText::new(alloc, first)?,
-        second: OwnedText::new(alloc, second)?,
-        third: OwnedText::new(alloc, third)?,
     })
 }

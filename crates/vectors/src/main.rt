@@ -15,6 +15,7 @@
 //! - `answers`: making an answer.
 //! - `texts`, `tries`, `hints`, `sinks`, `sources`: the calls of `writeable`.
 //! - `tags`, `locales`, `fallback`: those of `tinystr`, `icu_locale_core` and `icu_locale_fallback`.
+//! - `identifiers`: those of `unic_langid_impl`.
 //! - `catalogs`, `metadata`, `expressions`: those of `gettext`.
 //! - `localising`, `program`: those of `localise` and `localise_run`.
 #![tactic(auto)]
@@ -26,6 +27,7 @@ mod catalogs;
 mod expressions;
 mod fallback;
 mod hints;
+mod identifiers;
 mod locales;
 mod localising;
 mod metadata;

@@ -1,0 +1,92 @@
+//! Errors of identifiers, by their names. Those of an inner error are the outer one's.
+
+use crate::answers;
+use crate::answers::Answer;
+use crate::arguments::{Wrong, text};
+use serde_json::Value;
+use std::alloc::{AllocError, Global};
+use unic_langid_impl::{IdJsonError, LanguageIdentifierError, LikelyError, ParserError};
+
+/// An error's words, by its type and its name.
+pub fn answer<'a>(alloc: Global, call: &str, arguments: &'a [Value]) -> Answer<'a> {
+    let [given] = arguments else {
+        return Err(Wrong::Call);
+    };
+    let words = match call {
+        "ParserError::text" => parser_error(given)?.text(),
+        "LanguageIdentifierError::text" => identifier_error(given)?.text(),
+        "IdJsonError::text" => json_error(given)?.text(),
+        "LikelyError::text" => likely_error(given)?.text(),
+        _ => return Err(Wrong::Call),
+    };
+    Ok(answers::text(alloc, words)?)
+}
+
+fn parser_error(given: &Value) -> Result<ParserError, Wrong<'_>> {
+    match text(given)? {
+        "InvalidLanguage" => Ok(ParserError::InvalidLanguage),
+        "InvalidSubtag" => Ok(ParserError::InvalidSubtag),
+        "NoMemory" => Ok(ParserError::NoMemory),
+        _ => Err(Wrong::Argument(given, "the name of an error")),
+    }
+}
+
+fn identifier_error(given: &Value) -> Result<LanguageIdentifierError, Wrong<'_>> {
+    match text(given)? {
+        "Unknown" => Ok(LanguageIdentifierError::Unknown),
+        "NoMemory" => Ok(LanguageIdentifierError::NoMemory),
+        _ => Ok(LanguageIdentifierError::ParserError(parser_error(given)?)),
+    }
+}
+
+fn json_error(given: &Value) -> Result<IdJsonError, Wrong<'_>> {
+    match text(given)? {
+        "NotText" => Ok(IdJsonError::NotText),
+        "NoMemory" => Ok(IdJsonError::NoMemory),
+        _ => Ok(IdJsonError::Parse(parser_error(given)?)),
+    }
+}
+
+fn likely_error(given: &Value) -> Result<LikelyError, Wrong<'_>> {
+    match text(given)? {
+        "DuplicateKey" => Ok(LikelyError::DuplicateKey(0, 0)),
+        "BadEntry" => Ok(LikelyError::BadEntry(0, 0)),
+        "NoMemory" => Ok(LikelyError::NoMemory),
+        _ => Err(Wrong::Argument(given, "the name of an error")),
+    }
+}
+
+/// The parser's error as an answer.
+pub fn refused_by_parser(alloc: Global, error: ParserError) -> Result<Value, AllocError> {
+    match error {
+        ParserError::InvalidLanguage => answers::refused(alloc, "InvalidLanguage"),
+        ParserError::InvalidSubtag => answers::refused(alloc, "InvalidSubtag"),
+        ParserError::NoMemory => Err(AllocError),
+    }
+}
+
+/// The error as an answer.
+pub fn refused(alloc: Global, error: LanguageIdentifierError) -> Result<Value, AllocError> {
+    match error {
+        LanguageIdentifierError::Unknown => answers::refused(alloc, "Unknown"),
+        LanguageIdentifierError::ParserError(error) => refused_by_parser(alloc, error),
+        LanguageIdentifierError::NoMemory => Err(AllocError),
+    }
+}
+
+/// The error of a JSON value as an answer.
+pub fn refused_json(alloc: Global, error: IdJsonError) -> Result<Value, AllocError> {
+    match error {
+        IdJsonError::NotText => answers::refused(alloc, "NotText"),
+        IdJsonError::Parse(error) => refused_by_parser(alloc, error),
+        IdJsonError::NoMemory => Err(AllocError),
+    }
+}
+
+/// What is wrong with an argument that makes no identifier or no subtag.
+pub fn unread(given: &Value, error: ParserError) -> Wrong<'_> {
+    match error {
+        ParserError::NoMemory => Wrong::NoMemory,
+        _ => Wrong::Refused(given, error.text()),
+    }
+}
