@@ -10,33 +10,11 @@
 //! {"refused":"TooLarge"}
 //! ```
 //!
-//! - `calls`: which module knows a library's calls, and what a line is.
-//! - `arguments`: reading an argument, and what is wrong with a line that isn't a call.
-//! - `answers`: making an answer.
-//! - `texts`, `tries`, `hints`, `sinks`, `sources`: the calls of `writeable`.
-//! - `tags`, `locales`, `fallback`: those of `tinystr`, `icu_locale_core` and `icu_locale_fallback`.
-//! - `identifiers`: those of `unic_langid_impl`.
-//! - `catalogs`, `metadata`, `expressions`: those of `gettext`.
-//! - `localising`, `program`: those of `localise` and `localise_run`.
+//! - `lines`: what a line is, and which crate knows a library's calls. These crates have the
+//!   library's name behind `calls_`; reading arguments and making answers is their crate `calls`.
 #![tactic(auto)]
 
-mod answers;
-mod arguments;
-mod calls;
-mod catalogs;
-mod expressions;
-mod fallback;
-mod hints;
-mod identifiers;
-mod locales;
-mod localising;
-mod metadata;
-mod program;
-mod sinks;
-mod sources;
-mod tags;
-mod texts;
-mod tries;
+mod lines;
 
 use std::io;
 use std::io::{BufRead, BufReader, BufWriter, Write};
@@ -52,7 +30,7 @@ fn main(rt: HostRuntime) -> io::Result<()> {
         if input.read_until(b'\n', &mut line)? == 0 {
             break;
         }
-        let answer = calls::answer_line(alloc, &line)?;
+        let answer = lines::answer_line(alloc, &line)?;
         writeln!(output, "{answer}")?;
     }
     output.flush()

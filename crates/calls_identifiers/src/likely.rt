@@ -3,12 +3,11 @@
 //! Tables are an object of `lang_only`, `lang_region`, `lang_script`, `script_region`,
 //! `script_only` and `region_only`, each a list of rows of texts; one that is left out is empty.
 
-use super::making::without_variants;
-use super::subtags;
-use crate::answers;
-use crate::answers::Answer;
-use crate::arguments::{Wrong, object, table};
-use crate::locales::printed;
+use crate::making::without_variants;
+use crate::subtags;
+use calls::answers;
+use calls::answers::{Answer, printed};
+use calls::arguments::{Wrong, object, table};
 use serde_json::Value;
 use std::alloc::{AllocError, Global};
 use unic_langid_impl::likelysubtags::{maximize, minimize};

@@ -5,12 +5,11 @@
 //! other value, which is its own text. A run is answered by its status and exit code, and by what
 //! the output and the error sink took.
 
-use crate::answers;
-use crate::answers::{Answer, Object};
-use crate::arguments::{Wrong, list, text};
 use crate::localising::refused_bundle;
-use crate::sinks::numbers;
-use crate::sources::{Script, script_of};
+use calls::answers;
+use calls::answers::{Answer, Object};
+use calls::arguments::{Wrong, list, numbers, text};
+use calls::scripts::{Script, script_of};
 use localise_run::{Status, run};
 use serde_json::Value;
 use std::alloc::{AllocError, Global};

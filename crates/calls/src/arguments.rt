@@ -77,6 +77,15 @@ pub fn optional_size(value: &Value) -> Result<Option<usize>, Wrong<'_>> {
     }
 }
 
+/// The numbers of a list.
+pub fn numbers<'a>(alloc: Global, given: &'a Value) -> Result<Vec<u64>, Wrong<'a>> {
+    let mut numbers = Vec::new(alloc);
+    for each in list(given)? {
+        numbers.push(number(each)?)?;
+    }
+    Ok(numbers)
+}
+
 /// A number of any width, in decimal digits.
 pub fn wide<T: FromStr + Drop>(value: &Value) -> Result<T, Wrong<'_>>
 where

@@ -3,9 +3,9 @@
 
 ghost use Rattle.std.specs.Prelude.{◌≤◌};
 
-use crate::answers;
-use crate::answers::{Answer, Object};
-use crate::arguments::{Wrong, character, list, member, number, text};
+use calls::answers;
+use calls::answers::{Answer, Object};
+use calls::arguments::{Wrong, character, list, member, numbers, text};
 use serde_json::Value;
 use std::alloc::{AllocError, Global};
 use writeable::{
@@ -104,15 +104,6 @@ fn error_of(given: &Value) -> Result<SinkError, Wrong<'_>> {
         "NoMemory" => Ok(SinkError::NoMemory),
         _ => Err(Wrong::Argument(given, "the name of an error")),
     }
-}
-
-/// The numbers of a list.
-pub fn numbers<'a>(alloc: Global, given: &'a Value) -> Result<Vec<u64>, Wrong<'a>> {
-    let mut numbers = Vec::new(alloc);
-    for each in list(given)? {
-        numbers.push(number(each)?)?;
-    }
-    Ok(numbers)
 }
 
 fn listed<'a>(alloc: Global, given: &'a Value) -> Answer<'a> {

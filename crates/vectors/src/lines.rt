@@ -1,11 +1,10 @@
 //! Lines and their answers.
 
-use crate::answers::{Answer, Object};
-use crate::arguments::Wrong;
-use crate::{
-    catalogs, expressions, fallback, hints, identifiers, locales, localising, metadata, program,
-    sinks, sources, tags, texts, tries,
-};
+use calls::answers::{Answer, Object};
+use calls::arguments::Wrong;
+use calls_catalogs::reads;
+use calls_locales::{fallback, locales, tags};
+use calls_localise::{localising, program};
 use serde_json::Value;
 use std::alloc::{AllocError, Global};
 
@@ -80,42 +79,15 @@ fn wrong(alloc: Global, words: String) -> Result<Value, AllocError> {
 fn answer<'a>(alloc: Global, path: &str, arguments: &'a [Value]) -> Answer<'a> {
     let (library, call) = path.split_once("::").ok_or(Wrong::Call)?;
     match library {
-        "writeable" => writeable_call(alloc, call, arguments),
+        "writeable" => calls_writeable::answer(alloc, call, arguments),
         "tinystr" => tags::answer(alloc, call, arguments),
         "icu_locale_core" => locales::answer(alloc, call, arguments),
         "icu_locale_fallback" => fallback::answer(alloc, call, arguments),
-        "unic_langid_impl" => identifiers::answer(alloc, call, arguments),
-        "reading" => sources::answer_reading(alloc, call, arguments),
-        "gettext" => gettext_call(alloc, call, arguments),
+        "unic_langid_impl" => calls_identifiers::answer(alloc, call, arguments),
+        "reading" => reads::answer(alloc, call, arguments),
+        "gettext" => calls_catalogs::answer(alloc, call, arguments),
         "localise" => localising::answer(alloc, call, arguments),
         "localise_run" => program::answer(alloc, call, arguments),
         _ => Err(Wrong::Call),
-    }
-}
-
-/// A call of `writeable`: by a type with calls of its own, or by the value that it is asked of.
-fn writeable_call<'a>(alloc: Global, call: &str, arguments: &'a [Value]) -> Answer<'a> {
-    match call.split_once("::") {
-        Some(("LengthHint", call)) => hints::answer(alloc, call, arguments),
-        Some(("TryWriteable", call)) => tries::answer(alloc, call, arguments),
-        Some(("SliceSource" | "ScriptSource" | "SourceFault", _)) => {
-            sources::answer(alloc, call, arguments)
-        }
-        Some((_, "push" | "text")) => sinks::answer(alloc, call, arguments),
-        None if is_of_hints(call) => hints::answer_free(alloc, call, arguments),
-        _ => texts::answer(alloc, call, arguments),
-    }
-}
-
-fn is_of_hints(call: &str) -> bool {
-    matches!(call, "sum_hints" | "sum_lengths" | "replaced_hint")
-}
-
-fn gettext_call<'a>(alloc: Global, call: &str, arguments: &'a [Value]) -> Answer<'a> {
-    match call.split_once("::") {
-        Some(("Catalog" | "ParseOptions", _)) => catalogs::answer(alloc, call, arguments),
-        Some(("Ast" | "Resolver", _)) => expressions::answer(alloc, call, arguments),
-        _ if call == "default_resolver" => expressions::answer(alloc, call, arguments),
-        _ => metadata::answer(alloc, call, arguments),
     }
 }

@@ -3,11 +3,10 @@
 //! Pieces are their bytes, cut at `-` and `_`, or null where none is left. A reader of pieces
 //! answers the identifier and the pieces that it left.
 
-use super::{errors, subtags};
-use crate::answers;
-use crate::answers::{Answer, Object};
-use crate::arguments::{Wrong, bytes, flag, list, text};
-use crate::locales::printed;
+use crate::{errors, subtags};
+use calls::answers;
+use calls::answers::{Answer, Object, printed};
+use calls::arguments::{Wrong, bytes, flag, list, text};
 use serde_json::Value;
 use std::alloc::{AllocError, Global};
 use unic_langid_impl::parser::{parse_language_identifier, parse_language_identifier_from_iter};

@@ -1,8 +1,8 @@
 //! Calls of length hints. A hint is `[lower, upper]`, and `upper` is null where there is none.
 
-use crate::answers;
-use crate::answers::Answer;
-use crate::arguments::{Wrong, list, optional_size, size};
+use calls::answers;
+use calls::answers::Answer;
+use calls::arguments::{Wrong, list, optional_size, size};
 use serde_json::Value;
 use std::alloc::{AllocError, Global};
 use writeable::{LengthHint, replaced_hint, sum_hints, sum_lengths};

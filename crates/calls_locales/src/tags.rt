@@ -2,9 +2,9 @@
 
 ghost use Rattle.std.specs.Prelude.{◌≤◌};
 
-use crate::answers;
-use crate::answers::Answer;
-use crate::arguments::{Wrong, bytes, text};
+use calls::answers;
+use calls::answers::Answer;
+use calls::arguments::{Wrong, bytes, text};
 use serde_json::Value;
 use std::alloc::Global;
 use tinystr::{TinyError, TinyStr};

@@ -5,10 +5,11 @@
 //! `Utf8`, `Latin1` or `Windows1252`, and `plural`, which is one of the expressions `0`, `1`, `n` and
 //! `n<2?0:1`. A form is an object of its number and its text. A catalog is answered by its buffer.
 
-use crate::answers::{Answer, Object};
-use crate::arguments::{Wrong, field, number, optional_text, size, text};
-use crate::sources::{Script, script_of};
-use crate::{answers, metadata};
+use crate::metadata;
+use calls::answers;
+use calls::answers::{Answer, Object};
+use calls::arguments::{Wrong, field, number, optional_text, size, text};
+use calls::scripts::{Script, script_of};
 use gettext::{Catalog, Encoding, Error, Form, ParseOptions, PluralFunction};
 use serde_json::Value;
 use std::alloc::{AllocError, Global};

@@ -4,6 +4,7 @@ use crate::arguments::Wrong;
 use serde_json::{Map, Value};
 use std::alloc::{AllocError, Global};
 use std::cmp::Ordering;
+use std::fmt::Display;
 use writeable::{LengthHint, PartSpan, StringSink, Writeable, writeable_to_parts_for_test};
 
 /// What a call answers.
@@ -19,6 +20,11 @@ pub fn optional_text(alloc: Global, found: Option<&str>) -> Result<Value, AllocE
         Some(found) => text(alloc, found),
         None => Ok(Value::Null),
     }
+}
+
+/// The text that the value prints.
+pub fn printed<T: Display>(alloc: Global, value: &T) -> Result<Value, AllocError> {
+    Ok(Value::String(value.to_string(alloc)?))
 }
 
 /// The bytes in hexadecimal.

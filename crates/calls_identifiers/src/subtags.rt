@@ -1,10 +1,9 @@
 //! Calls of subtags. Each is its text, and where it may be missing, null.
 
-use super::errors;
-use crate::answers;
-use crate::answers::Answer;
-use crate::arguments::{Wrong, bytes, flag, number, short_number, text};
-use crate::locales::printed;
+use crate::errors;
+use calls::answers;
+use calls::answers::{Answer, printed};
+use calls::arguments::{Wrong, bytes, flag, number, short_number, text};
 use serde_json::Value;
 use std::alloc::{AllocError, Global};
 use std::fmt::Display;

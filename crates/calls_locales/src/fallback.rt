@@ -4,10 +4,10 @@
 //! and `parents`, each a list of rows of texts; one that is left out is empty. Null is no tables.
 //! A walk is the texts of its locales, to the unknown one or up to a number of steps.
 
-use crate::answers::{Answer, Object};
-use crate::arguments::{Wrong, number, object, table, text};
-use crate::locales::printed;
-use crate::{answers, locales};
+use crate::locales;
+use calls::answers;
+use calls::answers::{Answer, Object, printed};
+use calls::arguments::{Wrong, number, object, table, text};
 use icu_locale_core::DataLocale;
 use icu_locale_fallback::{
     FallbackRows, LocaleFallbackConfig, LocaleFallbackIterator, LocaleFallbackPriority,

@@ -1,8 +1,8 @@
 //! Calls of data locales and of their subtags. Each is its printed text.
 
-use crate::answers;
-use crate::answers::Answer;
-use crate::arguments::{Wrong, bytes, text};
+use calls::answers;
+use calls::answers::{Answer, printed};
+use calls::arguments::{Wrong, bytes, text};
 use icu_locale_core::{DataLocale, Language, LocaleError, Region, Script, Subtag, Variant};
 use serde_json::Value;
 use std::alloc::{AllocError, Global};
@@ -61,11 +61,6 @@ fn of_locale<'a>(
         },
         _ => Err(Wrong::Call),
     }
-}
-
-/// The text that the value prints.
-pub fn printed<T: Display>(alloc: Global, value: &T) -> Result<Value, AllocError> {
-    Ok(Value::String(value.to_string(alloc)?))
 }
 
 pub fn name(error: LocaleError) -> &'static str {

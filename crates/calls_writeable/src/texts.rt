@@ -5,10 +5,11 @@
 //! `{"u64": ..}` and `{"Part": [category, value, text]}`. `lower` is the text in ASCII lower case,
 //! lent where it has no other letters.
 
-use crate::answers::{Answer, Object};
-use crate::arguments::{Wrong, bytes, character, list, member, text, wide};
+use crate::sinks;
 use crate::tries::attempt;
-use crate::{answers, sinks};
+use calls::answers;
+use calls::answers::{Answer, Object};
+use calls::arguments::{Wrong, bytes, character, list, member, text, wide};
 use either::{Either, Left, Right};
 use serde_json::Value;
 use std::alloc::{AllocError, Global};

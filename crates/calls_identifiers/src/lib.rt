@@ -1,19 +1,19 @@
-//! Calls of language identifiers. Each is its printed text.
+//! Calls of `unic_langid_impl`. An identifier is its printed text.
 //!
 //! - `making`: calls that make one, and those of `SubtagPieces`.
 //! - `likely`: calls that are handed likely tables.
 //! - `subtags`: calls of subtags.
 //! - `errors`: refusals by their names.
+#![tactic(auto)]
 
 mod errors;
 mod likely;
 mod making;
 mod subtags;
 
-use crate::answers;
-use crate::answers::Answer;
-use crate::arguments::{Wrong, flag, text};
-use crate::locales::printed;
+use calls::answers;
+use calls::answers::{Answer, printed};
+use calls::arguments::{Wrong, flag, text};
 use making::{made, variants_of};
 use serde_json::Value;
 use std::alloc::{AllocError, Global};

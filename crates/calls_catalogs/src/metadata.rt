@@ -1,8 +1,8 @@
 //! Calls of metadata, which are their text, of encodings, and of the errors of `gettext`.
 
-use crate::answers;
-use crate::answers::Answer;
-use crate::arguments::{Wrong, text};
+use calls::answers;
+use calls::answers::Answer;
+use calls::arguments::{Wrong, text};
 use gettext::{Encoding, Error, MetadataMap, parse_metadata};
 use serde_json::Value;
 use std::alloc::{AllocError, Global};

@@ -4,9 +4,10 @@
 //! operator and the trees that it stands between. A resolver is an expression; null, which is the
 //! default; or `{"Function": "n<2?0:1"}`.
 
-use crate::answers::{Answer, Object};
-use crate::arguments::{Wrong, number, text};
-use crate::{answers, metadata};
+use crate::metadata;
+use calls::answers;
+use calls::answers::{Answer, Object};
+use calls::arguments::{Wrong, number, text};
 use gettext::{Ast, Operator, PluralFunction, Resolver, default_resolver};
 use serde_json::Value;
 use std::alloc::{AllocError, Global};

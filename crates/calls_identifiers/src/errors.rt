@@ -1,8 +1,8 @@
 //! Errors of identifiers, by their names. Those of an inner error are the outer one's.
 
-use crate::answers;
-use crate::answers::Answer;
-use crate::arguments::{Wrong, text};
+use calls::answers;
+use calls::answers::Answer;
+use calls::arguments::{Wrong, text};
 use serde_json::Value;
 use std::alloc::{AllocError, Global};
 use unic_langid_impl::{IdJsonError, LanguageIdentifierError, LikelyError, ParserError};

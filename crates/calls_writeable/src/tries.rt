@@ -4,9 +4,9 @@
 //! the error and is written in the text's place; `Concat` and two of them; `&` and one. An error is
 //! answered as the text that it writes.
 
-use crate::answers;
-use crate::answers::{Answer, Object};
-use crate::arguments::{Wrong, list, member, size, text};
+use calls::answers;
+use calls::answers::{Answer, Object};
+use calls::arguments::{Wrong, list, member, size, text};
 use either::{Either, Left, Right};
 use serde_json::Value;
 use std::alloc::{AllocError, Global};

@@ -1,8 +1,9 @@
 //! Calls of localisers. A bundle is an object of `tag` and `mo`.
 
-use crate::answers::{Answer, Object};
-use crate::arguments::{Wrong, bytes, field, list, member, text};
-use crate::{answers, metadata};
+use calls::answers;
+use calls::answers::{Answer, Object};
+use calls::arguments::{Wrong, bytes, field, list, member, text};
+use calls_catalogs::metadata;
 use localise::{BundleCause, BundleText, Localiser, MoBytes, RenderError};
 use serde_json::Value;
 use std::alloc::{AllocError, Global};
