@@ -9,35 +9,10 @@ use Rattle.std.proofs.lemmas.List.Elements.{All-nil, All-cons, All-weaker}
 use Rattle.std.proofs.lemmas.Str.{IsAscii-append}
 use Rattle.std.proofs.lemmas.Str.Ascii.{IsAscii-cons, IsAscii-from_all, IsAscii-nil}
 use Rattle.std.specs.Str.{IsAscii}
-use Rattle.tinystr.specs.Text.{IsTextByte, IsTinyText}
+use Rattle.tinystr.specs.ShapesLaws.{lowercase-bytes, small-bytes, tiny_region, tiny_script, tiny_variant, tiny-IsAscii}
+use Rattle.tinystr.specs.Text.{IsTinyText}
 use Rattle.icu_locale_core.specs.Locale.{IsLocale, Locale, marked, print}
 use Rattle.icu_locale_core.specs.Shapes.{is_small, IsLanguage, IsScript, IsRegion, IsVariant, IsSubtag}
-
--- a letter or a digit is a byte of a text
-module _ (test : ℕ → Bool) (is : (c : ℕ) → test c ≡ true → IsTextByte c) where
-  -- a text of such characters
-  text_bytes : (text : List ℕ) → list_all test text ≡ true → All IsTextByte text
-  text_bytes [] h = All-nil IsTextByte
-  text_bytes (c ∷ text) h =
-      let head : test c ≡ true = grind (arith, nat_tests) in
-      let tail : list_all test text ≡ true = grind (arith, nat_tests) in
-      All-cons IsTextByte c text (is c head) (text_bytes text tail)
-
--- small letters and digits
-small-text : (c : ℕ) → is_small c ≡ true → IsTextByte c
-small-text c h = grind (arith, nat_tests)
-
--- small letters
-lower-text : (c : ℕ) → is_ascii_lowercase c ≡ true → IsTextByte c
-lower-text c h = grind (arith, nat_tests)
-
--- capitals
-upper-text : (c : ℕ) → is_ascii_uppercase c ≡ true → IsTextByte c
-upper-text c h = grind (arith, nat_tests)
-
--- digits
-digit-text : (c : ℕ) → is_ascii_digit c ≡ true → IsTextByte c
-digit-text c h = grind (arith, nat_tests)
 
 -- ---- a subtag is a text that a `TinyStr` holds
 
@@ -45,69 +20,35 @@ digit-text c h = grind (arith, nat_tests)
 pub tiny_language : (text : List ℕ) → IsLanguage text → IsTinyText 3 text
 tiny_language text h =
     let all : list_all is_ascii_lowercase text ≡ true = grind (arith, nat_tests) in
-    record { fits = grind (arith, nat_tests); bytes = text_bytes is_ascii_lowercase lower-text text all }
-
--- a script
-pub tiny_script : (text : List ℕ) → IsScript text → IsTinyText 4 text
-tiny_script [] h = absurd (grind (arith, nat_tests))
-tiny_script (first ∷ rest) h =
-    let upper : is_ascii_uppercase first ≡ true = grind (arith, nat_tests) in
-    let all : list_all is_ascii_lowercase rest ≡ true = grind (arith, nat_tests) in record {
-      fits = grind (arith, nat_tests);
-      bytes = All-cons IsTextByte first rest (upper-text first upper)
-          (text_bytes is_ascii_lowercase lower-text rest all);
-    }
-
--- a region
-pub tiny_region : (text : List ℕ) → IsRegion text → IsTinyText 3 text
-tiny_region text h =
-    ⊎_elim
-    (λ (two : (length text == 2 && list_all is_ascii_uppercase text) ≡ true).
-    let all : list_all is_ascii_uppercase text ≡ true = grind (arith, nat_tests) in
-    record { fits = grind (arith, nat_tests); bytes = text_bytes is_ascii_uppercase upper-text text all })
-    (λ (three : (length text == 3 && list_all is_ascii_digit text) ≡ true).
-    let all : list_all is_ascii_digit text ≡ true = grind (arith, nat_tests) in
-    record { fits = grind (arith, nat_tests); bytes = text_bytes is_ascii_digit digit-text text all })
-    (or_cases (length text == 2 && list_all is_ascii_uppercase text) (length text == 3 && list_all is_ascii_digit text) h)
-
--- a variant
-pub tiny_variant : (text : List ℕ) → IsVariant text → IsTinyText 8 text
-tiny_variant text h =
-    let all : list_all is_small text ≡ true = grind (arith, nat_tests) in
-    record { fits = grind (arith, nat_tests); bytes = text_bytes is_small small-text text all }
+    record { fits = grind (arith, nat_tests); bytes = lowercase-bytes text all }
 
 -- a subtag
 pub tiny_subtag : (text : List ℕ) → IsSubtag text → IsTinyText 8 text
 tiny_subtag text h =
     let all : list_all is_small text ≡ true = grind (arith, nat_tests) in
-    record { fits = grind (arith, nat_tests); bytes = text_bytes is_small small-text text all }
+    record { fits = grind (arith, nat_tests); bytes = small-bytes text all }
 
 -- ---- a printed text is ASCII
 
--- such a text is ASCII
-text-IsAscii : (n : ℕ) (text : List ℕ) → IsTinyText n text → IsAscii text
-text-IsAscii n text is =
-    IsAscii-from_all text (All-weaker IsTextByte (λ byte. byte < 128) (λ byte b. b.1) text is.bytes)
-
--- so is a language
+-- a language
 pub language-IsAscii : (text : List ℕ) → IsLanguage text → IsAscii text
-language-IsAscii text h = text-IsAscii 3 text (tiny_language text h)
+language-IsAscii text h = tiny-IsAscii 3 text (tiny_language text h)
 
 -- a script
 pub script-IsAscii : (text : List ℕ) → IsScript text → IsAscii text
-script-IsAscii text h = text-IsAscii 4 text (tiny_script text h)
+script-IsAscii text h = tiny-IsAscii 4 text (tiny_script text h)
 
 -- a region
 pub region-IsAscii : (text : List ℕ) → IsRegion text → IsAscii text
-region-IsAscii text h = text-IsAscii 3 text (tiny_region text h)
+region-IsAscii text h = tiny-IsAscii 3 text (tiny_region text h)
 
 -- a variant
 pub variant-IsAscii : (text : List ℕ) → IsVariant text → IsAscii text
-variant-IsAscii text h = text-IsAscii 8 text (tiny_variant text h)
+variant-IsAscii text h = tiny-IsAscii 8 text (tiny_variant text h)
 
 -- a subtag
 pub subtag-IsAscii : (text : List ℕ) → IsSubtag text → IsAscii text
-subtag-IsAscii text h = text-IsAscii 8 text (tiny_subtag text h)
+subtag-IsAscii text h = tiny-IsAscii 8 text (tiny_subtag text h)
 
 -- a mark, and a subtag where there is one
 marked-IsAscii : (mark : List ℕ) (o : Option (List ℕ)) → IsAscii mark → IfSome o IsAscii

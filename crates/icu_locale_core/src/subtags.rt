@@ -1,7 +1,6 @@
 //! Subtags in canonical case (UTS 35, Unicode locale identifiers), each compared, ordered and
 //! hashed as its text.
 
-mod characters;
 mod language;
 mod region;
 mod script;

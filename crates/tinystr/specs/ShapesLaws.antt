@@ -40,6 +40,7 @@ lowercase-bytes text h = text_bytes is_ascii_lowercase lower-text text h
 pub small-bytes : (text : List ℕ) → list_all is_small text ≡ true → All IsTextByte text
 small-bytes text h = text_bytes is_small small-text text h
 
+-- a script is a text that a `TinyStr` holds
 pub tiny_script : (text : List ℕ) → IsScript text → IsTinyText 4 text
 tiny_script [] h = absurd (grind (arith, nat_tests))
 tiny_script (first ∷ rest) h =
@@ -49,6 +50,7 @@ tiny_script (first ∷ rest) h =
       bytes = All-cons IsTextByte first rest (upper-text first upper) (lowercase-bytes rest all);
     }
 
+-- a region is a text that a `TinyStr` holds
 pub tiny_region : (text : List ℕ) → IsRegion text → IsTinyText 3 text
 tiny_region text h =
     ⊎_elim
@@ -60,6 +62,7 @@ tiny_region text h =
     record { fits = grind (arith, nat_tests); bytes = text_bytes is_ascii_digit digit-text text all })
     (or_cases (length text == 2 && list_all is_ascii_uppercase text) (length text == 3 && list_all is_ascii_digit text) h)
 
+-- a variant is a text that a `TinyStr` holds
 pub tiny_variant : (text : List ℕ) → IsVariant text → IsTinyText 8 text
 tiny_variant text h =
     let all : list_all is_small text ≡ true = grind (arith, nat_tests) in

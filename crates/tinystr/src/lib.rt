@@ -16,9 +16,11 @@
 //!
 //! - `tiny_str`: [`TinyStr`].
 //! - `error`: [`TinyError`], why bytes are no such text.
+//! - `shapes`: tests of the shapes of subtags, of which crates above make their types.
 #![tactic(auto)]
 
 mod error;
+pub mod shapes;
 mod tiny_str;
 
 pub use error::TinyError;

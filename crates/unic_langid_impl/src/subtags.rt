@@ -1,7 +1,6 @@
 //! The subtags of an identifier in canonical case (UTS 35, Unicode locale identifiers), each a copied
 //! value that is compared, ordered and hashed as its text.
 
-mod characters;
 mod language;
 mod raw;
 mod region;

@@ -3,11 +3,11 @@ ghost use Rattle.std.specs.Result.{OkIff};
 ghost use Rattle.std.specs.Str.{chars};
 ghost use Rattle.icu_locale_core.specs.Shapes.{IsLanguage, is_language};
 
-use super::characters::are_lowercase;
 use crate::LocaleError;
 use std::fmt;
 use std::marker::Model;
 use tinystr::TinyStr;
+use tinystr::shapes::are_lowercase;
 
 /// A language: two or three small letters, as `en` or `yue`.
 #[derive(Clone, Copy, Debug, PartialEq, Eq, PartialOrd, Ord, Hash)]

@@ -1,13 +1,13 @@
 ghost use Rattle.std.specs.Prelude.{◌≡◌, Some};
 ghost use Rattle.std.specs.Result.{OkIff};
 ghost use Rattle.std.specs.Str.{chars};
-ghost use Rattle.icu_locale_core.specs.Shapes.{IsRegion, is_region};
+ghost use Rattle.icu_locale_core.specs.Shapes.{IsRegion};
 
-use super::characters::{are_digits, are_uppercase};
 use crate::LocaleError;
 use std::fmt;
 use std::marker::Model;
 use tinystr::TinyStr;
+use tinystr::shapes::is_region;
 
 /// A region: two capitals or three digits, as `US` or `419`.
 #[derive(Clone, Copy, Debug, PartialEq, Eq, PartialOrd, Ord, Hash)]
@@ -30,7 +30,7 @@ impl Model for Region {
 
 impl Region {
     /// The subtag of this text, which must be in canonical case.
-    #[tactic(auto, using(crate::specs::ShapeLaws::tiny_region))]
+    #[tactic(auto, using(tinystr::specs::ShapesLaws::tiny_region))]
     pub fn try_from_str(text: &str) -> Result<Region, LocaleError>
         ensures { OkIff result (IsRegion text.now) text.now }
     {
@@ -58,16 +58,5 @@ impl fmt::Display for Region {
 
     fn fmt<W: fmt::Write>(&self, f: &mut fmt::Formatter<W>) -> fmt::Result {
         f.pad(self.as_str())
-    }
-}
-
-/// Two capitals or three digits.
-fn is_region(text: &[u8]) -> bool
-    ensures { result ≡ is_region text.now }
-{
-    match text.len() {
-        2 => are_uppercase(text),
-        3 => are_digits(text),
-        _ => false,
     }
 }

@@ -1,13 +1,13 @@
 ghost use Rattle.std.specs.Prelude.{◌≡◌, Some};
 ghost use Rattle.std.specs.Result.{OkIff};
 ghost use Rattle.std.specs.Str.{chars};
-ghost use Rattle.icu_locale_core.specs.Shapes.{IsScript, is_script};
+ghost use Rattle.icu_locale_core.specs.Shapes.{IsScript};
 
-use super::characters::are_lowercase;
 use crate::LocaleError;
 use std::fmt;
 use std::marker::Model;
 use tinystr::TinyStr;
+use tinystr::shapes::is_script;
 
 /// A script: four letters, of which the first is a capital, as `Latn`.
 #[derive(Clone, Copy, Debug, PartialEq, Eq, PartialOrd, Ord, Hash)]
@@ -30,7 +30,7 @@ impl Model for Script {
 
 impl Script {
     /// The subtag of this text, which must be in canonical case.
-    #[tactic(auto, using(crate::specs::ShapeLaws::tiny_script))]
+    #[tactic(auto, using(tinystr::specs::ShapesLaws::tiny_script))]
     pub fn try_from_str(text: &str) -> Result<Script, LocaleError>
         ensures { OkIff result (IsScript text.now) text.now }
     {
@@ -59,11 +59,4 @@ impl fmt::Display for Script {
     fn fmt<W: fmt::Write>(&self, f: &mut fmt::Formatter<W>) -> fmt::Result {
         f.pad(self.as_str())
     }
-}
-
-/// A capital and three small letters.
-fn is_script(text: &[u8]) -> bool
-    ensures { result ≡ is_script text.now }
-{
-    text.len() == 4 && text[0].is_ascii_uppercase() && are_lowercase(&text[1..])
 }

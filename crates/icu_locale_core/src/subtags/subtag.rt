@@ -3,11 +3,11 @@ ghost use Rattle.std.specs.Result.{OkIff};
 ghost use Rattle.std.specs.Str.{chars};
 ghost use Rattle.icu_locale_core.specs.Shapes.{IsSubtag, is_subtag};
 
-use super::characters::are_small;
 use crate::LocaleError;
 use std::fmt;
 use std::marker::Model;
 use tinystr::TinyStr;
+use tinystr::shapes::are_small;
 
 /// A subtag of two to eight small letters or digits, as the subdivision `usca`.
 #[derive(Clone, Copy, Debug, PartialEq, Eq, PartialOrd, Ord, Hash)]

@@ -1,13 +1,13 @@
 ghost use Rattle.std.specs.Prelude.{◌≡◌, Some};
 ghost use Rattle.std.specs.Result.{OkIff};
 ghost use Rattle.std.specs.Str.{chars};
-ghost use Rattle.icu_locale_core.specs.Shapes.{IsVariant, is_variant};
+ghost use Rattle.icu_locale_core.specs.Shapes.{IsVariant};
 
-use super::characters::are_small;
 use crate::LocaleError;
 use std::fmt;
 use std::marker::Model;
 use tinystr::TinyStr;
+use tinystr::shapes::is_variant;
 
 /// A variant: five to eight small letters or digits, or four of which the first is a digit, as
 /// `fonipa` or `1996`.
@@ -31,7 +31,7 @@ impl Model for Variant {
 
 impl Variant {
     /// The subtag of this text, which must be in canonical case.
-    #[tactic(auto, using(crate::specs::ShapeLaws::tiny_variant))]
+    #[tactic(auto, using(tinystr::specs::ShapesLaws::tiny_variant))]
     pub fn try_from_str(text: &str) -> Result<Variant, LocaleError>
         ensures { OkIff result (IsVariant text.now) text.now }
     {
@@ -59,16 +59,5 @@ impl fmt::Display for Variant {
 
     fn fmt<W: fmt::Write>(&self, f: &mut fmt::Formatter<W>) -> fmt::Result {
         f.pad(self.as_str())
-    }
-}
-
-/// Five to eight small letters or digits, or four of which the first is a digit.
-fn is_variant(text: &[u8]) -> bool
-    ensures { result ≡ is_variant text.now }
-{
-    match text.len() {
-        4 => text[0].is_ascii_digit() && are_small(text),
-        5..=8 => are_small(text),
-        _ => false,
     }
 }

@@ -5,12 +5,12 @@ ghost use Rattle.std.specs.Result.{OkIff};
 ghost use Rattle.std.specs.Str.{chars};
 ghost use Rattle.unic_langid_impl.specs.Subtags.{Fits, IsLanguage, IsLanguageOrNone, is_language, language_of, language_text, lowercase, raw};
 
-use super::characters::are_lowercase;
 use super::raw::{number_u64, without_zeros};
 use crate::ParserError;
 use std::fmt;
 use std::marker::Model;
 use tinystr::TinyStr;
+use tinystr::shapes::are_lowercase;
 
 /// A language, as `en` or `yue`, or no language, whose text is `und`.
 #[derive(Clone, Copy, Debug, PartialEq, Eq, PartialOrd, Ord, Hash)]

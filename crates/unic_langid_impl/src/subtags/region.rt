@@ -2,15 +2,15 @@ ghost use Rattle.std.specs.Prelude.{◌≡◌, ◌≢◌, ◌↔◌, ℕ, List, 
 ghost use Rattle.std.specs.Int.{w32};
 ghost use Rattle.std.specs.Result.{OkIff};
 ghost use Rattle.std.specs.Str.{chars};
-ghost use Rattle.tinystr.specs.Shapes.{IsRegion, is_region};
+ghost use Rattle.tinystr.specs.Shapes.{IsRegion};
 ghost use Rattle.unic_langid_impl.specs.Subtags.{raw, uppercase};
 
-use super::characters::{are_digits, are_uppercase};
 use super::raw::{number_u32, without_zeros};
 use crate::ParserError;
 use std::fmt;
 use std::marker::Model;
 use tinystr::TinyStr;
+use tinystr::shapes::is_region;
 
 /// A region: two capitals or three digits, as `US` or `419`.
 #[derive(Clone, Copy, Debug, PartialEq, Eq, PartialOrd, Ord, Hash)]
@@ -90,15 +90,5 @@ impl fmt::Display for Region {
 
     fn fmt<W: fmt::Write>(&self, f: &mut fmt::Formatter<W>) -> fmt::Result {
         f.pad(self.as_str())
-    }
-}
-
-fn is_region(text: &[u8]) -> bool
-    ensures { result ≡ is_region text.now }
-{
-    match text.len() {
-        2 => are_uppercase(text),
-        3 => are_digits(text),
-        _ => false,
     }
 }

@@ -2,16 +2,16 @@ ghost use Rattle.std.specs.Prelude.{◌≡◌, ◌≢◌, ◌↔◌, ℕ, List, 
 ghost use Rattle.std.specs.Int.{w32};
 ghost use Rattle.std.specs.Result.{OkIff};
 ghost use Rattle.std.specs.Str.{chars};
-ghost use Rattle.tinystr.specs.Shapes.{IsScript, is_script};
+ghost use Rattle.tinystr.specs.Shapes.{IsScript};
 ghost use Rattle.tinystr.specs.Text.{titlecase};
 ghost use Rattle.unic_langid_impl.specs.Subtags.{raw};
 
-use super::characters::are_lowercase;
 use super::raw::{number_u32, without_zeros};
 use crate::ParserError;
 use std::fmt;
 use std::marker::Model;
 use tinystr::TinyStr;
+use tinystr::shapes::is_script;
 
 /// A script: four letters, of which the first is a capital, as `Latn`.
 #[derive(Clone, Copy, Debug, PartialEq, Eq, PartialOrd, Ord, Hash)]
@@ -92,10 +92,4 @@ impl fmt::Display for Script {
     fn fmt<W: fmt::Write>(&self, f: &mut fmt::Formatter<W>) -> fmt::Result {
         f.pad(self.as_str())
     }
-}
-
-fn is_script(text: &[u8]) -> bool
-    ensures { result ≡ is_script text.now }
-{
-    text.len() == 4 && text[0].is_ascii_uppercase() && are_lowercase(&text[1..])
 }

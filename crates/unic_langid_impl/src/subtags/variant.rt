@@ -2,15 +2,15 @@ ghost use Rattle.std.specs.Prelude.{◌≡◌, ◌≢◌, ◌↔◌, ℕ, List, 
 ghost use Rattle.std.specs.Int.{w64};
 ghost use Rattle.std.specs.Result.{OkIff};
 ghost use Rattle.std.specs.Str.{chars};
-ghost use Rattle.tinystr.specs.Shapes.{IsVariant, is_variant};
+ghost use Rattle.tinystr.specs.Shapes.{IsVariant};
 ghost use Rattle.unic_langid_impl.specs.Subtags.{raw, lowercase};
 
-use super::characters::are_small;
 use super::raw::{number_u64, without_zeros};
 use crate::ParserError;
 use std::fmt;
 use std::marker::Model;
 use tinystr::TinyStr;
+use tinystr::shapes::is_variant;
 
 /// A variant: five to eight letters or digits, or a digit and three of them, as `valencia` or
 /// `1996`.
@@ -91,15 +91,5 @@ impl fmt::Display for Variant {
 
     fn fmt<W: fmt::Write>(&self, f: &mut fmt::Formatter<W>) -> fmt::Result {
         f.pad(self.as_str())
-    }
-}
-
-fn is_variant(text: &[u8]) -> bool
-    ensures { result ≡ is_variant text.now }
-{
-    match text.len() {
-        4 => text[0].is_ascii_digit() && are_small(text),
-        5..=8 => are_small(text),
-        _ => false,
     }
 }
