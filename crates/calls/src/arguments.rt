@@ -150,12 +150,13 @@ pub fn table<'a>(
     Ok(rows)
 }
 
-/// A row of two or three texts.
+/// A row of one to three texts.
 fn text_row<'a>(alloc: Global, given: &'a Value) -> Result<TextRow, Wrong<'a>> {
     let (first, second, third) = match list(given)? {
+        [first] => (text(first)?, "", ""),
         [first, second] => (text(first)?, text(second)?, ""),
         [first, second, third] => (text(first)?, text(second)?, text(third)?),
-        _ => return Err(Wrong::Argument(given, "a row of two or three texts")),
+        _ => return Err(Wrong::Argument(given, "a row of one to three texts")),
     };
     Ok(TextRow {
         first: OwnedText::new(alloc, first)?,
