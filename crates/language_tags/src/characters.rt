@@ -1,0 +1,34 @@
+//! Of which characters a text is.
+ghost use Rattle.std.specs.Prelude.{◌≡◌};
+ghost use Rattle.std.specs.Char.{is_ascii_alphabetic, is_ascii_alphanumeric, is_ascii_digit, is_ascii_lowercase, is_ascii_uppercase};
+ghost use Rattle.std.specs.List.{list_all};
+
+pub(crate) fn are_alphabetic(text: &[u8]) -> bool
+    ensures { result ≡ list_all is_ascii_alphabetic text.now }
+{
+    text.iter().all(u8::is_ascii_alphabetic)
+}
+
+pub(crate) fn are_numeric(text: &[u8]) -> bool
+    ensures { result ≡ list_all is_ascii_digit text.now }
+{
+    text.iter().all(u8::is_ascii_digit)
+}
+
+pub(crate) fn are_alphanumeric(text: &[u8]) -> bool
+    ensures { result ≡ list_all is_ascii_alphanumeric text.now }
+{
+    text.iter().all(u8::is_ascii_alphanumeric)
+}
+
+pub(crate) fn are_lowercase(text: &[u8]) -> bool
+    ensures { result ≡ list_all is_ascii_lowercase text.now }
+{
+    text.iter().all(u8::is_ascii_lowercase)
+}
+
+pub(crate) fn are_uppercase(text: &[u8]) -> bool
+    ensures { result ≡ list_all is_ascii_uppercase text.now }
+{
+    text.iter().all(u8::is_ascii_uppercase)
+}
