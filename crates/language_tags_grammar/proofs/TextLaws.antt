@@ -1,10 +1,11 @@
 -- Whether a text is a tag, and its own printed form.
-use Rattle.std.proofs.Common.{◌≡◌, ℕ, zero, suc, ◌+◌, ◌-◌, ◌≤◌, ◌↔◌, Bool, true, false, not, List, [], ◌∷◌, ◌++◌, Option, Some, None, Result, Ok, Err, MatchResult, length, take, drop, refl, sym, ap, ◌∙◌, subst, arith, map, append_assoc}
-use Rattle.std.specs.Prelude.{IsTrue, is_ok}
+use Rattle.std.proofs.Common.{Bor, ◌≡◌, ℕ, zero, suc, ◌+◌, ◌-◌, ◌≤◌, ◌↔◌, Bool, true, false, not, List, [], ◌∷◌, ◌++◌, Option, Some, None, Result, Ok, Err, MatchResult, length, take, drop, refl, sym, ap, ◌∙◌, subst, arith, map, append_assoc}
+use Rattle.std.specs.Prelude.{IsTrue, is_ok, is_some}
+use Rattle.std.specs.Option.{option_copied}
 use Rattle.std.specs.Char.{is_ascii_lowercase, is_ascii_uppercase, to_ascii_lowercase, to_ascii_uppercase}
 use Rattle.std.specs.List.{list_all}
 use Rattle.std.proofs.lemmas.Bool.Decides.{nat_tests}
-use Rattle.std.proofs.lemmas.List.{drop-drop, length-map, take-append-drop}
+use Rattle.std.proofs.lemmas.List.{drop-drop, length-map, take-append-drop, take_rest}
 use Rattle.language_tags_grammar.specs.Case.{capital, in_case}
 use Rattle.language_tags_grammar.specs.Grandfathered.{grandfathered}
 use Rattle.language_tags_grammar.specs.Kept.{between}
@@ -130,6 +131,38 @@ module _ (ends : Ends) (t : List ℕ) (script : ends.extlang ≤ ends.script) (r
       let four = same_front (uppercase D) D _ _ (length-map D to_ascii_uppercase) three.1 in
       (one.0, two.0, three.0, four.0, four.1)
 
+-- the two pairs of sections and the last, by the place behind the capital
+module _ (ends : Ends) (t : List ℕ) (script : ends.extlang ≤ ends.script) (region : ends.script ≤ ends.region)
+    (cap : ℕ) (is : cap ≡ capital ends) where
+  abbrev pub FirstPair : Type 0
+  FirstPair =
+      (lowercase (take ends.extlang t) ≡ take ends.extlang t)
+      × (uppercase (take (cap - ends.extlang) (drop ends.extlang t)) ≡ take (cap - ends.extlang) (drop ends.extlang t))
+
+  abbrev pub SecondPair : Type 0
+  SecondPair =
+      (lowercase (take (ends.script - cap) (drop cap t)) ≡ take (ends.script - cap) (drop cap t))
+      × (uppercase (between ends.script ends.region t) ≡ between ends.script ends.region t)
+
+  abbrev pub Last : Type 0
+  Last =
+      lowercase (take (length t - ends.region) (drop ends.region t)) ≡ take (length t - ends.region) (drop ends.region t)
+
+  pub pairs_there : FirstPair → SecondPair → Last → in_case ends t ≡ t
+  pairs_there a c z =
+      in_case_there ends t script region a.0
+      (subst (λ k. uppercase (take (k - ends.extlang) (drop ends.extlang t)) ≡ take (k - ends.extlang) (drop ends.extlang t)) is a.1)
+      (subst (λ k. lowercase (take (ends.script - k) (drop k t)) ≡ take (ends.script - k) (drop k t)) is c.0)
+      c.1 (subst (λ u. lowercase u ≡ u) (take_rest t ends.region) z)
+
+  pub there_pairs : in_case ends t ≡ t → FirstPair × SecondPair × Last
+  there_pairs h =
+      let all = there_in_case ends t script region h in (
+        (all.0, subst (λ k. uppercase (take (k - ends.extlang) (drop ends.extlang t)) ≡ take (k - ends.extlang) (drop ends.extlang t)) (sym is) all.1),
+        (subst (λ k. lowercase (take (ends.script - k) (drop k t)) ≡ take (ends.script - k) (drop k t)) (sym is) all.2, all.3),
+        subst (λ u. lowercase u ≡ u) (sym (take_rest t ends.region)) all.4,
+      )
+
 -- ---- the three kinds of tags
 
 pub text_of_result : {A : Type 0} (t rest : List ℕ) (r : Result A ParseError) (b : Bool) → grandfathered t ≡ None
@@ -178,3 +211,32 @@ print_of_scan t ends none otherwise is =
 
 pub no_print : (t : List ℕ) (fault : ParseError) → IsFaultOf t fault → IsPrint t → ⊥
 no_print t fault is h = never_both t h.0 fault h.1 is
+
+-- ---- private use, and grandfathered texts
+
+module _ {A : Type 0} (t rest : List ℕ) (r : Result A ParseError) (none : grandfathered t ≡ None) (stands : StandsBehindX rest t)
+    (h : MatchResult r (λ _. IsTrue (list_all is_private (pieces rest))) (IsFaultBehindX rest)) where
+  pub private_print : is_ok r ≡ true → (lowercase t ≡ t) ↔ IsPrint t
+  private_print e = by r h e
+    where
+      by : (q : Result A ParseError) → MatchResult q (λ _. IsTrue (list_all is_private (pieces rest))) (IsFaultBehindX rest)
+          → is_ok q ≡ true → (lowercase t ≡ t) ↔ IsPrint t
+      by (Ok x) k f = print_of t (Whole (lowercase t)) (private_use none rest stands k refl)
+      by (Err fault) k f = absurd (let clash : true ≡ false = sym f in cc)
+
+  pub no_private_print : is_ok r ≡ false → IsPrint t → ⊥
+  no_private_print e = by r h e
+    where
+      by : (q : Result A ParseError) → MatchResult q (λ _. IsTrue (list_all is_private (pieces rest))) (IsFaultBehindX rest)
+          → is_ok q ≡ false → IsPrint t → ⊥
+      by (Ok x) k f is = let clash : true ≡ false = f in cc
+      by (Err fault) k f is = no_print t fault (behind_x none rest stands k) is
+
+pub is_grandfathered_text : (t : List ℕ) (o : Option (Bor (List ℕ))) → option_copied o ≡ grandfathered t → is_some o ≡ true → IsText t
+is_grandfathered_text t None e f = let clash : true ≡ false = sym f in cc
+is_grandfathered_text t (Some x) e f = (Whole x.now, whole x.now (sym e) refl)
+
+pub no_grandfathered : (t : List ℕ) (o : Option (Bor (List ℕ))) → option_copied o ≡ grandfathered t → is_some o ≡ false
+    → grandfathered t ≡ None
+no_grandfathered t None e f = sym e
+no_grandfathered t (Some x) e f = let clash : true ≡ false = f in cc

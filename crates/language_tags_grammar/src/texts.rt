@@ -57,11 +57,16 @@ fn is_in_case(text: &[u8], ends: &Ends) -> bool
     ensures { IsTrue result ↔ (in_case ends.now text.now ≡ text.now) }
 {
     let capital = ends.script.min(ends.extlang.saturating_add(2));
-    is_in_lowercase(&text[..ends.extlang])
-        && is_in_uppercase(&text[ends.extlang..capital])
-        && is_in_lowercase(&text[capital..ends.script])
-        && is_in_uppercase(&text[ends.script..ends.region])
+    is_cased(&text[..ends.extlang], &text[ends.extlang..capital])
+        && is_cased(&text[capital..ends.script], &text[ends.script..ends.region])
         && is_in_lowercase(&text[ends.region..])
+}
+
+/// Whether one text is in lower case and the next in upper case.
+fn is_cased(small: &[u8], capital: &[u8]) -> bool
+    ensures { IsTrue result ↔ ((lowercase small.now ≡ small.now) × (uppercase capital.now ≡ capital.now)) }
+{
+    is_in_lowercase(small) && is_in_uppercase(capital)
 }
 
 fn is_in_lowercase(text: &[u8]) -> bool
