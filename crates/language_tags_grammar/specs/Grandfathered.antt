@@ -1,7 +1,7 @@
 -- The grandfathered tags: RFC 5646, section 2.1, `irregular` and `regular`.
 use Rattle.std.specs.Prelude.{ℕ, Bool, ◌&&◌, ◌||◌, ◌==◌, List, [], ◌∷◌, Option, codes, length, slice_index}
 use Rattle.std.specs.Int.{is_in_range}
-use Rattle.std.specs.List.{find}
+use Rattle.std.specs.List.{find, list_any}
 use Rattle.std.specs.Str.{byte, bytes_eq}
 use Rattle.language_tags_grammar.specs.Pieces.{lowercase}
 
@@ -17,6 +17,10 @@ grandfathereds =
 -- the grandfathered tag that a text is without its case
 abbrev pub grandfathered : List ℕ → Option (List ℕ)
 grandfathered text = find (λ tag. bytes_eq (lowercase tag) (lowercase text)) grandfathereds
+
+-- a text is a grandfathered tag in its own spelling
+abbrev pub is_grandfathered : List ℕ → Bool
+is_grandfathered text = list_any (λ tag. bytes_eq tag text) grandfathereds
 
 -- the length and the first letter of a grandfathered tag in lower case
 abbrev pub may_be_grandfathered : List ℕ → Bool

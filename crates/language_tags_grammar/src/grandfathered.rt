@@ -2,7 +2,7 @@ ghost use Rattle.std.specs.Prelude.{◌≡◌, List, ℕ, map};
 ghost use Rattle.std.specs.List.{find};
 ghost use Rattle.std.specs.Option.{option_copied};
 ghost use Rattle.std.specs.Str.{bytes_eq};
-ghost use Rattle.language_tags_grammar.specs.Grandfathered.{grandfathered, may_be_grandfathered};
+ghost use Rattle.language_tags_grammar.specs.Grandfathered.{grandfathered, is_grandfathered, may_be_grandfathered};
 ghost use Rattle.language_tags_grammar.specs.Pieces.{lowercase};
 
 /// The grandfathered tags of RFC 5646.
@@ -68,4 +68,14 @@ fn find_without_case<'a>(tags: &[&'a str], text: &str) -> Option<&'a str>
         }
     }
     None
+}
+
+/// Whether a text is a grandfathered tag in its own spelling.
+pub fn is_grandfathered(text: &str) -> bool
+    ensures { result ≡ is_grandfathered text.now }
+{
+    match grandfathered(text) {
+        Some(tag) => tag == text,
+        None => false,
+    }
 }

@@ -12,7 +12,7 @@
 //! - `texts`: [`is_tag`] and [`is_printed_tag`], whether a text is a tag, and in its own case.
 //! - `error`: [`ParseError`], why a text is no tag.
 //! - `subtags`: [`SubtagsIter`], the subtags of a text one by one.
-//! - `grandfathered`: [`GRANDFATHEREDS`], the tags that are kept as they are.
+//! - `grandfathered`: [`GRANDFATHEREDS`], the tags that are kept as they are, and [`is_grandfathered`].
 //! - `laws`: [`texts_and_tags`], what holds of every text and its tag.
 //! - `scan`, `ends`, `private_use`: the scanner, which says where the parts of a text end, or its
 //!   first fault.
@@ -32,7 +32,7 @@ mod subtags;
 mod texts;
 
 pub use error::ParseError;
-pub use grandfathered::GRANDFATHEREDS;
+pub use grandfathered::{GRANDFATHEREDS, is_grandfathered};
 pub use laws::texts_and_tags;
 pub use subtags::SubtagsIter;
 pub use texts::{is_printed_tag, is_tag};
