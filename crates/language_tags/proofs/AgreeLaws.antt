@@ -3,8 +3,8 @@ use Rattle.std.proofs.Common.{◌≡◌, ℕ, Bool, true, false, not, List, [], 
 use Rattle.std.specs.Str.{bytes_eq}
 use Rattle.std.proofs.lemmas.Slice.Eq.{bytes_eq-Decides}
 use Rattle.language_tags.specs.Equality.{Agree}
-use Rattle.language_tags.specs.Pieces.{part_text}
-use Rattle.language_tags.specs.Tag.{at_most_one}
+use Rattle.language_tags_grammar.specs.Pieces.{part_text}
+use Rattle.language_tags_grammar.specs.Tag.{at_most_one}
 
 pub agree_none : (xs ys : List (List ℕ)) → ys ≡ [] → Agree xs ys
 agree_none [] ys e = tt

@@ -1,9 +1,9 @@
 -- The text of a part.
 use Rattle.std.proofs.Common.{◌≡◌, ℕ, ◌+◌, ◌-◌, ◌<◌, ◌≤◌, List, [], ◌∷◌, Some, None, length, take, drop, refl, sym, ap, ◌∙◌, arith, suc, zero}
 use Rattle.std.proofs.lemmas.List.{drop-drop, length-take, length-drop}
-use Rattle.language_tags.specs.Kept.{between}
-use Rattle.language_tags.specs.Pieces.{dashed, part_text}
-use Rattle.language_tags.proofs.KeptLaws.{joined-dashed}
+use Rattle.language_tags_grammar.specs.Kept.{between}
+use Rattle.language_tags_grammar.specs.Pieces.{dashed, part_text}
+use Rattle.language_tags_grammar.proofs.KeptLaws.{joined-dashed}
 
 tail-between : (start end : ℕ) (text : List ℕ) → start < end → drop 1 (between start end text) ≡ between (start + 1) end text
 tail-between start end text lt = by (drop start text) (end - start) (end - (start + 1)) (omega arith) ∙ ap (take (end - (start + 1))) (drop-drop 1 start text)

@@ -4,7 +4,7 @@ use Rattle.std.specs.Prelude.{IsTrue}
 use Rattle.std.specs.Str.{bytes_eq}
 use Rattle.std.proofs.lemmas.Slice.Eq.{bytes_eq-Decides}
 use Rattle.language_tags.specs.Equality.{key}
-use Rattle.language_tags.specs.Tag.{Tag, Whole, Plain, print}
+use Rattle.language_tags_grammar.specs.Tag.{Tag, Whole, Plain, print}
 
 print-key : (g : Tag) → drop 1 (key g) ≡ print g
 print-key (Whole text) = refl

@@ -2,8 +2,8 @@
 ghost use Rattle.std.specs.Prelude.{◌≡◌, ℕ, ◌≤◌, List, length, take, chars};
 ghost use Rattle.std.specs.Option.{option_copied};
 ghost use Rattle.std.specs.Str.{IsAscii};
-ghost use Rattle.language_tags.specs.Kept.{between};
-ghost use Rattle.language_tags.specs.Pieces.{dashed, part_text};
+ghost use Rattle.language_tags_grammar.specs.Kept.{between};
+ghost use Rattle.language_tags_grammar.specs.Pieces.{dashed, part_text};
 
 /// The text up to a place.
 pub(crate) fn front(text: &str, end: usize) -> &str

@@ -26,11 +26,11 @@ pub struct LanguageTag {
 
 impl Model for LanguageTag {
     ghost use Rattle.std.specs.Prelude.{string_bytes};
-    ghost use Rattle.language_tags.specs.Tag.{Tag};
+    ghost use Rattle.language_tags_grammar.specs.Tag.{Tag};
 
     ghost Value = { Tag };
 
-    ghost use Rattle.language_tags.specs.Kept.{IsKept, tag_at};
+    ghost use Rattle.language_tags_grammar.specs.Kept.{IsKept, tag_at};
 
     ghost view = { λ t. tag_at t.ends (string_bytes t.text) };
 
@@ -40,16 +40,16 @@ impl Model for LanguageTag {
 impl LanguageTag {
     ghost use Rattle.serde_json.specs.Find.{as_str};
     ghost use Rattle.serde_json.specs.View.{view};
-    ghost use Rattle.language_tags.specs.declared.error.ParseError.{ParseError as Fault};
+    ghost use Rattle.language_tags_grammar.specs.declared.error.ParseError.{ParseError as Fault};
     ghost use Rattle.std.specs.Str.{IsAscii, chars};
-    ghost use Rattle.language_tags.specs.Pieces.{lowercase, part_text, pieces};
-    ghost use Rattle.language_tags.specs.Scan.{scanned};
-    ghost use Rattle.language_tags.specs.Tag.{Parts, Whole, Plain, print};
-    ghost use Rattle.language_tags.specs.Tag.{at_most_one, extension_pieces, extensions_of, extlangs_of, front_of, full_language_of, language_of, private_of, private_pieces, region_of, script_of, variants_of};
+    ghost use Rattle.language_tags_grammar.specs.Pieces.{lowercase, part_text, pieces};
+    ghost use Rattle.language_tags_grammar.specs.Scan.{scanned};
+    ghost use Rattle.language_tags_grammar.specs.Tag.{Parts, Whole, Plain, print};
+    ghost use Rattle.language_tags_grammar.specs.Tag.{at_most_one, extension_pieces, extensions_of, extlangs_of, front_of, full_language_of, language_of, private_of, private_pieces, region_of, script_of, variants_of};
     ghost use Rattle.language_tags.specs.Equality.{IsRange, Matches};
-    ghost use Rattle.language_tags.specs.TagFault.{IsFaultBehindX, IsFaultOf, IsFaultOfPieces};
-    ghost use Rattle.language_tags.specs.TagOf.{IsLangtag, IsTagOf, StandsBehindX};
-    ghost use Rattle.language_tags.specs.Shapes.{is_private};
+    ghost use Rattle.language_tags_grammar.specs.TagFault.{IsFaultBehindX, IsFaultOf, IsFaultOfPieces};
+    ghost use Rattle.language_tags_grammar.specs.TagOf.{IsLangtag, IsTagOf, StandsBehindX};
+    ghost use Rattle.language_tags_grammar.specs.Shapes.{is_private};
 
     /// The tag that a text is.
     pub fn parse(alloc: Global, input: &str) -> Result<LanguageTag, ParseError>
@@ -325,7 +325,7 @@ impl LanguageTag {
 }
 
 impl fmt::Display for LanguageTag {
-    ghost use Rattle.language_tags.specs.Tag.{print};
+    ghost use Rattle.language_tags_grammar.specs.Tag.{print};
 
     ghost output = { λ tag. Some (print tag) };
 
@@ -363,7 +363,7 @@ impl Hash for LanguageTag {
     ghost use Rattle.std.specs.Hash as fed;
     ghost use Rattle.std.proofs.Common.{ap};
     ghost use Rattle.language_tags.specs.EqualityLaws.{same_print};
-    ghost use Rattle.language_tags.specs.Tag.{print};
+    ghost use Rattle.language_tags_grammar.specs.Tag.{print};
 
     ghost hash_input = { λ tag. fed.str (print tag) };
 

@@ -1,7 +1,7 @@
 use Rattle.std.proofs.Common.{◌≡◌, List, ℕ, Option, subst, ◌∙◌}
 use Rattle.std.specs.Prelude.{IfSome}
-use Rattle.language_tags.specs.TagFault.{IsFaultOf}
-use Rattle.language_tags.specs.declared.error.ParseError.{ParseError}
+use Rattle.language_tags_grammar.specs.TagFault.{IsFaultOf}
+use Rattle.language_tags_grammar.specs.declared.error.ParseError.{ParseError}
 use Rattle.language_tags.proofs.tag.LanguageTag.from_json.Goals as goal
 
 pub returns-in_default-fault : goal.returns-in_default-fault

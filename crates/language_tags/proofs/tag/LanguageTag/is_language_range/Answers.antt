@@ -1,6 +1,6 @@
 use Rattle.std.proofs.Common.{ap, sym}
 use Rattle.std.specs.List.{flat_map}
-use Rattle.language_tags.specs.Tag.{extension_pieces, extensions_of, private_of, private_pieces}
+use Rattle.language_tags_grammar.specs.Tag.{extension_pieces, extensions_of, private_of, private_pieces}
 use Rattle.language_tags.proofs.KeptUse.{no_pieces, no_text, range_is}
 use Rattle.language_tags.proofs.tag.LanguageTag.is_language_range.Goals as goal
 

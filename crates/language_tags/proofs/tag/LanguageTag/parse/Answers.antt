@@ -1,10 +1,10 @@
 -- A text is a grandfathered one, or begins with `x-`, or is a langtag.
 use Rattle.std.proofs.Common.{sym}
 use Rattle.std.proofs.lemmas.Result.{IfOk-weaker, MatchResult-weaker}
-use Rattle.language_tags.specs.Pieces.{lowercase}
-use Rattle.language_tags.specs.TagFault.{behind_x, in_pieces}
-use Rattle.language_tags.specs.TagOf.{langtag, private_use, whole}
-use Rattle.language_tags.proofs.FindLaws.{grandfathered-ascii}
+use Rattle.language_tags_grammar.specs.Pieces.{lowercase}
+use Rattle.language_tags_grammar.specs.TagFault.{behind_x, in_pieces}
+use Rattle.language_tags_grammar.specs.TagOf.{langtag, private_use, whole}
+use Rattle.language_tags_grammar.proofs.FindLaws.{grandfathered-ascii}
 use Rattle.language_tags.proofs.tag.LanguageTag.parse.Goals as goal
 
 pub whole-requires : goal.whole-requires

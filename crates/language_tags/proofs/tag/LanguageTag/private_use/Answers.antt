@@ -1,7 +1,7 @@
 use Rattle.std.proofs.Common.{◌∙◌, arith, ap, sym, string_bytes}
 use Rattle.std.proofs.lemmas.Str.Pattern.{starts_text}
 use Rattle.std.specs.Prelude.{codes}
-use Rattle.language_tags.specs.Kept.{tag_at}
+use Rattle.language_tags_grammar.specs.Kept.{tag_at}
 use Rattle.language_tags.proofs.KeptUse.{kept-ascii, kept-within, private-text, whole-none, whole-private}
 use Rattle.language_tags.proofs.tag.LanguageTag.private_use.Goals as goal
 

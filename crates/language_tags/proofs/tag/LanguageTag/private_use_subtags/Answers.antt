@@ -1,5 +1,5 @@
 use Rattle.std.proofs.Common.{◌∙◌, string_bytes}
-use Rattle.language_tags.specs.Tag.{private_of}
+use Rattle.language_tags_grammar.specs.Tag.{private_of}
 use Rattle.language_tags.proofs.KeptUse.{private-cut, private-rest}
 use Rattle.language_tags.proofs.tag.LanguageTag.private_use_subtags.Goals as goal
 

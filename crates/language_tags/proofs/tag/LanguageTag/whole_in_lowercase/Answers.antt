@@ -1,7 +1,7 @@
 use Rattle.std.proofs.Common.{◌≡◌, ◌∙◌, ap, sym, subst, ◌++◌}
 use Rattle.std.specs.Str.{IsAscii}
 use Rattle.std.proofs.lemmas.Str.{IsUtf8-from_ascii}
-use Rattle.language_tags.specs.Pieces.{lowercase}
+use Rattle.language_tags_grammar.specs.Pieces.{lowercase}
 use Rattle.language_tags.proofs.tag.LanguageTag.whole_in_lowercase.Goals as goal
 
 pub from_utf8_unchecked-requires : goal.from_utf8_unchecked-requires

@@ -1,7 +1,7 @@
 use Rattle.std.proofs.Common.{◌≡◌, ◌∙◌, sym, ap, string_bytes, rules}
 use Rattle.std.specs.Prelude.{is_none}
 use Rattle.std.proofs.lemmas.Slice.Eq.{bytes_eq-Decides}
-use Rattle.language_tags.specs.Tag.{print}
+use Rattle.language_tags_grammar.specs.Tag.{print}
 use Rattle.language_tags.proofs.KeptUse.{tags_equal}
 use Rattle.language_tags.proofs.tag.LanguageTagPartialEq.eq.Goals as goal
 

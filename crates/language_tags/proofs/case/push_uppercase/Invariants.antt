@@ -1,6 +1,0 @@
-use Rattle.std.proofs.Common.{◌≡◌, ◌++◌, take}
-use Rattle.language_tags.specs.Pieces.{uppercase}
-use Rattle.language_tags.proofs.case.push_uppercase.Given as goal
-
-abbrev pub invariant-loop-byte : goal.invariant-loop-byte
-invariant-loop-byte l = l.cased.items ≡ l.fn.cased.items ++ uppercase (take l.byte-index l.text)

@@ -1,7 +1,0 @@
-use Rattle.language_tags.proofs.Neither.{tag_or_fault}
-use Rattle.language_tags.proofs.NeverBoth.{never_both}
-use Rattle.language_tags.proofs.Unique.{one_tag, printed_again}
-use Rattle.language_tags.proofs.laws.texts_and_tags.Goals as goal
-
-pub returns : goal.returns
-returns c = record { one = one_tag; never_neither = tag_or_fault; never_both = never_both; again = printed_again }
