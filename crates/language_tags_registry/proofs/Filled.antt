@@ -68,6 +68,7 @@ module _ (rows : RegistryRows) (k : ℕ) (tables : List (List Entry)) (h : AreFi
             → at (tables ++ next ∷ []) (kind_of other).number ≡ at tables (kind_of other).number
         first other less =
             get_or_append_left tables (next ∷ []) [] (kind_of other).number (omega (arith, h.length_is, less))
+
         last : (other : RegistryTable) → (kind_of other).number ≡ k
             → IsTableOf (kind_of other) (rows_of other rows) (at (tables ++ next ∷ []) (kind_of other).number)
         last other is_last =
