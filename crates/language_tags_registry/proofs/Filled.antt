@@ -1,11 +1,11 @@
 -- Tables that are filled one by one.
-use Rattle.std.proofs.Common.{◌≡◌, ℕ, ◌+◌, ◌<◌, List, [], ◌∷◌, ◌++◌, length, get_or, refl, sym, ap, ◌∙◌, subst, arith, inl, inr}
+use Rattle.std.proofs.Common.{◌≡◌, ℕ, ◌+◌, ◌<◌, List, [], ◌∷◌, ◌++◌, length, get_or, sym, ap, ◌∙◌, subst, arith, inl, inr}
 use Rattle.std.proofs.lemmas.Bool.{cases_lt}
 use Rattle.std.proofs.lemmas.List.{get_or_append_left, get_or_push, length_push}
 use Rattle.writeable_core.specs.declared.text.TextRow.{TextRow}
 use Rattle.language_tags_registry.specs.Faults.{AreTablesOf, IsFaultOf, IsFirstFault}
 use Rattle.language_tags_registry.specs.Kinds.{HoldTables, kind_of}
-use Rattle.language_tags_registry.specs.Registry.{Entry, table_of, tables_at}
+use Rattle.language_tags_registry.specs.Registry.{Entry, tables_at}
 use Rattle.language_tags_registry.specs.Rows.{IsTableOf, rows_of}
 use Rattle.language_tags_registry.specs.declared.error.RegistryError.{RegistryError}
 use Rattle.language_tags_registry.specs.declared.error.RegistryError.TheVariants.{NoMemory}
