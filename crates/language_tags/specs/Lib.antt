@@ -1,0 +1,9 @@
+pub use Rattle.language_tags_grammar.specs.Pieces
+pub use Rattle.language_tags_grammar.specs.Tag
+pub use Rattle.language_tags_grammar.specs.Shapes
+pub use Rattle.language_tags_grammar.specs.Grandfathered
+pub use Rattle.language_tags_grammar.specs.TagOf
+pub use Rattle.language_tags_grammar.specs.Begun
+pub use Rattle.language_tags_grammar.specs.TagFault
+pub mod Equality
+pub mod EqualityLaws
