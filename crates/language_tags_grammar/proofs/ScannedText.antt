@@ -28,7 +28,6 @@ use Rattle.language_tags_grammar.proofs.PieceLaws.{some_piece}
 pub begins-x : (t : List ℕ) → starts_with nat_eq t (codes "x-") ≡ true → codes "x-" ++ drop 2 t ≡ t
 begins-x t e = ap (λ a. a ++ drop 2 t) ((bytes_eq-Decides (codes "x-") (take 2 t)).0 e) ∙ take-append-drop 2 t
 
-
 -- ---- pieces of parts
 
 pub first-clean : (x : List ℕ) (ps : List (List ℕ)) → AreClean (x ∷ ps) → IsClean x
@@ -95,4 +94,3 @@ module _ (text : List ℕ) (ends : Ends) (is : scanned (pieces (lowercase text))
 
   pub scanned-parts : (bytes : List ℕ) → bytes ≡ joined (written q) → parts_at ends bytes ≡ q
   scanned-parts bytes e = ap (parts_at ends) e ∙ parts_at-text q ends ends_at was_scanned.shapes
-

@@ -1,15 +1,13 @@
 -- The shapes of a tag's parts (RFC 5646, section 2.1), in the case that section 2.1.1 recommends: lower case, but for the
--- script, whose first letter is a capital, and the region, in upper case.
-use Rattle.std.specs.Prelude.{◌≡◌, ℕ, ◌≤◌, Bool, ◌&&◌, ◌||◌, ◌==◌, not, ◌⊎◌, List, [], length, drop, slice_index, IsTrue, IfSome}
-use Rattle.std.specs.Char.{is_ascii_digit, is_ascii_lowercase, is_ascii_uppercase}
+-- script, whose first letter is a capital, and the region, in upper case. Those of a script, a
+-- region and a variant are of `tinystr`.
+use Rattle.std.specs.Prelude.{◌≡◌, ℕ, ◌≤◌, Bool, ◌&&◌, ◌==◌, not, ◌⊎◌, List, [], length, IsTrue, IfSome}
+use Rattle.std.specs.Char.{is_ascii_lowercase}
 use Rattle.std.specs.Int.{is_in_range}
 use Rattle.std.specs.List.{AllByRecursion, list_all}
 use Rattle.std.specs.Str.{byte}
 use Rattle.language_tags_grammar.specs.Tag.{Extension, Parts}
-
--- alphanum, in lower case
-abbrev pub is_small : ℕ → Bool
-is_small c = is_ascii_lowercase c || is_ascii_digit c
+pub use Rattle.tinystr.specs.Shapes.{is_region, is_script, is_small, is_variant}
 
 -- language: two to eight letters
 abbrev pub is_language : List ℕ → Bool
@@ -18,22 +16,6 @@ is_language text = is_in_range 2 8 (length text) && list_all is_ascii_lowercase 
 -- extlang: three letters
 abbrev pub is_extlang : List ℕ → Bool
 is_extlang text = length text == 3 && list_all is_ascii_lowercase text
-
--- script: four letters
-abbrev pub is_script : List ℕ → Bool
-is_script text =
-    length text == 4 && (is_ascii_uppercase (slice_index text 0) && list_all is_ascii_lowercase (drop 1 text))
-
--- region: two letters or three digits
-abbrev pub is_region : List ℕ → Bool
-is_region text =
-    (length text == 2 && list_all is_ascii_uppercase text) || (length text == 3 && list_all is_ascii_digit text)
-
--- variant: five to eight letters or digits, or a digit and three letters or digits
-abbrev pub is_variant : List ℕ → Bool
-is_variant text =
-    (is_in_range 5 8 (length text) || (length text == 4 && is_ascii_digit (slice_index text 0)))
-    && list_all is_small text
 
 -- singleton: a letter or digit other than x
 abbrev pub is_singleton : ℕ → Bool

@@ -21,18 +21,6 @@ pub fn are_alphanumeric(text: &[u8]) -> bool
     text.iter().all(u8::is_ascii_alphanumeric)
 }
 
-pub fn are_lowercase(text: &[u8]) -> bool
-    ensures { result ≡ list_all is_ascii_lowercase text.now }
-{
-    text.iter().all(u8::is_ascii_lowercase)
-}
-
-pub fn are_uppercase(text: &[u8]) -> bool
-    ensures { result ≡ list_all is_ascii_uppercase text.now }
-{
-    text.iter().all(u8::is_ascii_uppercase)
-}
-
 pub(crate) fn has_no_capitals(text: &[u8]) -> bool
     ensures { result ≡ list_all (λ c. not (is_ascii_uppercase c)) text.now }
 {

@@ -4,8 +4,9 @@ ghost use Rattle.std.specs.Option.{SomeIff};
 ghost use Rattle.language_tags_registry.specs.Kinds.{Meets, kind, kind_of};
 ghost use Rattle.language_tags_registry.specs.Rows.{HasValue, row_value};
 
-use crate::subtags::{is_extlang, is_language, is_region, is_script, is_variant};
+use crate::subtags::{is_extlang, is_language};
 use language_tags_grammar::{is_grandfathered, is_printed_tag, is_tag};
+use tinystr::shapes::{is_region, is_script, is_variant};
 use writeable_core::{OwnedText, TextRow};
 
 /// A table of a registry, in the order of their numbers, which begin at 0.

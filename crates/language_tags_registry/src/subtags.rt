@@ -9,4 +9,4 @@ mod shapes;
 pub use language::LanguageSubtag;
 pub use region::RegionSubtag;
 pub use script::ScriptSubtag;
-pub(crate) use shapes::{is_extlang, is_language, is_region, is_script, is_variant};
+pub(crate) use shapes::{is_extlang, is_language};

@@ -3,11 +3,11 @@ ghost use Rattle.std.specs.Result.{OkIff};
 ghost use Rattle.std.specs.Str.{chars};
 ghost use Rattle.tinystr.specs.Shapes.{IsRegion};
 
-use super::shapes::is_region;
 use crate::SubtagError;
 use std::fmt;
 use std::marker::Model;
 use tinystr::TinyStr;
+use tinystr::shapes::is_region;
 
 /// A region: two capitals or three digits, as `US` or `419`.
 #[derive(Clone, Copy, Debug, PartialEq, Eq, PartialOrd, Ord, Hash)]

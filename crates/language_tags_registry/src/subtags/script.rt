@@ -3,11 +3,11 @@ ghost use Rattle.std.specs.Result.{OkIff};
 ghost use Rattle.std.specs.Str.{chars};
 ghost use Rattle.tinystr.specs.Shapes.{IsScript};
 
-use super::shapes::is_script;
 use crate::SubtagError;
 use std::fmt;
 use std::marker::Model;
 use tinystr::TinyStr;
+use tinystr::shapes::is_script;
 
 /// A script: a capital and three small letters, as `Latn`.
 #[derive(Clone, Copy, Debug, PartialEq, Eq, PartialOrd, Ord, Hash)]
