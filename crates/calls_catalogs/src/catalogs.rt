@@ -1,9 +1,10 @@
 //! Calls of catalogs.
 //!
 //! A catalog is the bytes of its MO file; null, which is the empty catalog; or an object of `mo`
-//! (bytes, or a source that gives them: see `sources`), and of what is forced: `encoding`, which is
-//! `Utf8`, `Latin1` or `Windows1252`, and `plural`, which is one of the expressions `0`, `1`, `n` and
-//! `n<2?0:1`. A form is an object of its number and its text. A catalog is answered by its buffer.
+//! (bytes, or a source that gives them: see `calls::scripts`), and of what is forced: `encoding`,
+//! which is `Utf8`, `Latin1` or `Windows1252`, and `plural`, which is one of the expressions `0`,
+//! `1`, `n` and `n<2?0:1`. A form is an object of its number and its text. A catalog is answered by
+//! its buffer.
 
 use crate::metadata;
 use calls::answers;
@@ -175,7 +176,8 @@ fn the_count(n: u64) -> usize {
     n as usize
 }
 
-fn two_forms(n: u64) -> usize {
+/// Two forms, of which 0 and 1 have the first.
+pub fn two_forms(n: u64) -> usize {
     if n < 2 { 0 } else { 1 }
 }
 

@@ -4,6 +4,7 @@
 //! operator and the trees that it stands between. A resolver is an expression; null, which is the
 //! default; or `{"Function": "n<2?0:1"}`.
 
+use crate::catalogs::two_forms;
 use crate::metadata;
 use calls::answers;
 use calls::answers::{Answer, Object};
@@ -38,11 +39,6 @@ fn resolved<'a>(alloc: Global, given: &'a Value, n: u64) -> Result<Option<usize>
             Err(error) => Err(metadata::unread(given, error)),
         },
     }
-}
-
-/// Two forms, of which 0 and 1 have the first.
-fn two_forms(n: u64) -> usize {
-    if n < 2 { 0 } else { 1 }
 }
 
 fn tree(alloc: Global, ast: &Ast) -> Result<Value, AllocError> {

@@ -2,16 +2,17 @@
 
 use calls::answers;
 use calls::answers::Answer;
-use calls::arguments::{Wrong, text};
+use calls::arguments::{Wrong, named, text};
 use gettext::{Encoding, Error, MetadataMap, parse_metadata};
 use serde_json::Value;
-use std::alloc::{AllocError, Global};
+use std::alloc::Global;
 
 /// A call by its path.
 pub fn answer<'a>(alloc: Global, call: &str, arguments: &'a [Value]) -> Answer<'a> {
     match (call, arguments) {
         ("Encoding::from_label", [label]) => {
-            Ok(encoding_name(alloc, Encoding::from_label(text(label)?))?)
+            let name = Encoding::from_label(text(label)?).map(encoding_name);
+            Ok(answers::optional_text(alloc, name)?)
         }
         ("Error::text", [name]) => Ok(answers::text(alloc, error_of(name)?.text())?),
         ("parse_metadata", [blob]) => match parse_metadata(alloc, text(blob)?) {
@@ -40,23 +41,19 @@ fn of_map<'a>(alloc: Global, call: &str, map: &MetadataMap<'_>, others: &'a [Val
     Ok(answer?)
 }
 
-fn encoding_name(alloc: Global, encoding: Option<Encoding>) -> Result<Value, AllocError> {
-    let name = encoding.map(|encoding| match encoding {
+const ENCODINGS: [Encoding; 3] = [Encoding::Utf8, Encoding::Latin1, Encoding::Windows1252];
+
+fn encoding_name(encoding: Encoding) -> &'static str {
+    match encoding {
         Encoding::Utf8 => "Utf8",
         Encoding::Latin1 => "Latin1",
         Encoding::Windows1252 => "Windows1252",
-    });
-    answers::optional_text(alloc, name)
+    }
 }
 
 /// The encoding with this name.
 pub fn encoding_of(given: &Value) -> Result<Encoding, Wrong<'_>> {
-    match text(given)? {
-        "Utf8" => Ok(Encoding::Utf8),
-        "Latin1" => Ok(Encoding::Latin1),
-        "Windows1252" => Ok(Encoding::Windows1252),
-        _ => Err(Wrong::Argument(given, "Utf8, Latin1 or Windows1252")),
-    }
+    named(given, &ENCODINGS, encoding_name, "Utf8, Latin1 or Windows1252")
 }
 
 /// The error as an answer.
@@ -75,6 +72,19 @@ pub fn unread(given: &Value, error: Error) -> Wrong<'_> {
     }
 }
 
+const ERRORS: [Error; 10] = [
+    Error::BadMagic,
+    Error::DecodingError,
+    Error::Eof,
+    Error::Io,
+    Error::MalformedMetadata,
+    Error::MisplacedMetadata,
+    Error::PluralParsing,
+    Error::UnknownEncoding,
+    Error::TooLong,
+    Error::NoMemory,
+];
+
 pub fn name(error: Error) -> &'static str {
     match error {
         Error::BadMagic => "BadMagic",
@@ -92,17 +102,5 @@ pub fn name(error: Error) -> &'static str {
 
 /// The error with this name.
 pub fn error_of(given: &Value) -> Result<Error, Wrong<'_>> {
-    match text(given)? {
-        "BadMagic" => Ok(Error::BadMagic),
-        "DecodingError" => Ok(Error::DecodingError),
-        "Eof" => Ok(Error::Eof),
-        "Io" => Ok(Error::Io),
-        "MalformedMetadata" => Ok(Error::MalformedMetadata),
-        "MisplacedMetadata" => Ok(Error::MisplacedMetadata),
-        "PluralParsing" => Ok(Error::PluralParsing),
-        "UnknownEncoding" => Ok(Error::UnknownEncoding),
-        "TooLong" => Ok(Error::TooLong),
-        "NoMemory" => Ok(Error::NoMemory),
-        _ => Err(Wrong::Argument(given, "the name of an error")),
-    }
+    named(given, &ERRORS, name, "the name of an error")
 }

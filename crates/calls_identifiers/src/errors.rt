@@ -2,7 +2,7 @@
 
 use calls::answers;
 use calls::answers::Answer;
-use calls::arguments::{Wrong, text};
+use calls::arguments::{Wrong, named, text};
 use serde_json::Value;
 use std::alloc::{AllocError, Global};
 use unic_langid_impl::{IdJsonError, LanguageIdentifierError, LikelyError, ParserError};
@@ -22,13 +22,22 @@ pub fn answer<'a>(alloc: Global, call: &str, arguments: &'a [Value]) -> Answer<'
     Ok(answers::text(alloc, words)?)
 }
 
-fn parser_error(given: &Value) -> Result<ParserError, Wrong<'_>> {
-    match text(given)? {
-        "InvalidLanguage" => Ok(ParserError::InvalidLanguage),
-        "InvalidSubtag" => Ok(ParserError::InvalidSubtag),
-        "NoMemory" => Ok(ParserError::NoMemory),
-        _ => Err(Wrong::Argument(given, "the name of an error")),
+const PARSER_ERRORS: [ParserError; 3] = [
+    ParserError::InvalidLanguage,
+    ParserError::InvalidSubtag,
+    ParserError::NoMemory,
+];
+
+fn parser_name(error: ParserError) -> &'static str {
+    match error {
+        ParserError::InvalidLanguage => "InvalidLanguage",
+        ParserError::InvalidSubtag => "InvalidSubtag",
+        ParserError::NoMemory => "NoMemory",
     }
+}
+
+fn parser_error(given: &Value) -> Result<ParserError, Wrong<'_>> {
+    named(given, &PARSER_ERRORS, parser_name, "the name of an error")
 }
 
 fn identifier_error(given: &Value) -> Result<LanguageIdentifierError, Wrong<'_>> {
@@ -47,21 +56,29 @@ fn json_error(given: &Value) -> Result<IdJsonError, Wrong<'_>> {
     }
 }
 
-fn likely_error(given: &Value) -> Result<LikelyError, Wrong<'_>> {
-    match text(given)? {
-        "DuplicateKey" => Ok(LikelyError::DuplicateKey(0, 0)),
-        "BadEntry" => Ok(LikelyError::BadEntry(0, 0)),
-        "NoMemory" => Ok(LikelyError::NoMemory),
-        _ => Err(Wrong::Argument(given, "the name of an error")),
+const LIKELY_ERRORS: [LikelyError; 3] = [
+    LikelyError::DuplicateKey(0, 0),
+    LikelyError::BadEntry(0, 0),
+    LikelyError::NoMemory,
+];
+
+pub fn likely_name(error: LikelyError) -> &'static str {
+    match error {
+        LikelyError::DuplicateKey(..) => "DuplicateKey",
+        LikelyError::BadEntry(..) => "BadEntry",
+        LikelyError::NoMemory => "NoMemory",
     }
+}
+
+fn likely_error(given: &Value) -> Result<LikelyError, Wrong<'_>> {
+    named(given, &LIKELY_ERRORS, likely_name, "the name of an error")
 }
 
 /// The parser's error as an answer.
 pub fn refused_by_parser(alloc: Global, error: ParserError) -> Result<Value, AllocError> {
     match error {
-        ParserError::InvalidLanguage => answers::refused(alloc, "InvalidLanguage"),
-        ParserError::InvalidSubtag => answers::refused(alloc, "InvalidSubtag"),
         ParserError::NoMemory => Err(AllocError),
+        _ => answers::refused(alloc, parser_name(error)),
     }
 }
 
@@ -87,6 +104,6 @@ pub fn refused_json(alloc: Global, error: IdJsonError) -> Result<Value, AllocErr
 pub fn unread(given: &Value, error: ParserError) -> Wrong<'_> {
     match error {
         ParserError::NoMemory => Wrong::NoMemory,
-        _ => Wrong::Refused(given, error.text()),
+        _ => Wrong::Refused(given, parser_name(error)),
     }
 }

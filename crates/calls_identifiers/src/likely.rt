@@ -3,6 +3,7 @@
 //! Tables are an object of `lang_only`, `lang_region`, `lang_script`, `script_region`,
 //! `script_only` and `region_only`, each a list of rows of texts; one that is left out is empty.
 
+use crate::errors::likely_name;
 use crate::making::without_variants;
 use crate::subtags;
 use calls::answers;
@@ -87,21 +88,24 @@ fn form(
 fn tried<'a>(alloc: Global, tables: &'a Value) -> Answer<'a> {
     let answer = match LikelyTables::try_new(alloc, &rows(alloc, tables)?) {
         Ok(_) => answers::text(alloc, "Ok"),
-        Err(LikelyError::DuplicateKey(table, row)) => {
-            answers::refused_at(alloc, "DuplicateKey", [table, row])
-        }
-        Err(LikelyError::BadEntry(table, row)) => {
-            answers::refused_at(alloc, "BadEntry", [table, row])
-        }
-        Err(LikelyError::NoMemory) => Err(AllocError),
+        Err(error) => refused(alloc, error),
     };
     Ok(answer?)
+}
+
+fn refused(alloc: Global, error: LikelyError) -> Result<Value, AllocError> {
+    match error {
+        LikelyError::DuplicateKey(table, row) | LikelyError::BadEntry(table, row) => {
+            answers::refused_at(alloc, likely_name(error), [table, row])
+        }
+        LikelyError::NoMemory => Err(AllocError),
+    }
 }
 
 fn tables_of<'a>(alloc: Global, tables: &'a Value) -> Result<LikelyTables, Wrong<'a>> {
     LikelyTables::try_new(alloc, &rows(alloc, tables)?).map_err(|error| match error {
         LikelyError::NoMemory => Wrong::NoMemory,
-        _ => Wrong::Refused(tables, error.text()),
+        _ => Wrong::Refused(tables, likely_name(error)),
     })
 }
 

@@ -7,7 +7,7 @@
 use crate::locales;
 use calls::answers;
 use calls::answers::{Answer, Object, printed};
-use calls::arguments::{Wrong, number, object, table, text};
+use calls::arguments::{Wrong, named, number, object, table, text};
 use icu_locale_core::DataLocale;
 use icu_locale_fallback::{
     FallbackRows, LocaleFallbackConfig, LocaleFallbackIterator, LocaleFallbackPriority,
@@ -50,11 +50,11 @@ fn tried<'a>(alloc: Global, tables: &'a Value) -> Answer<'a> {
 
 fn refused(alloc: Global, error: TableError) -> Result<Value, AllocError> {
     match error {
-        TableError::DuplicateKey(table, row) => {
-            answers::refused_at(alloc, "DuplicateKey", [table, row])
+        TableError::DuplicateKey(table, row)
+        | TableError::BadKey(table, row)
+        | TableError::BadValue(table, row) => {
+            answers::refused_at(alloc, name(error), [table, row])
         }
-        TableError::BadKey(table, row) => answers::refused_at(alloc, "BadKey", [table, row]),
-        TableError::BadValue(table, row) => answers::refused_at(alloc, "BadValue", [table, row]),
         TableError::NoMemory => Err(AllocError),
     }
 }
@@ -145,6 +145,12 @@ fn config_answer(alloc: Global, config: LocaleFallbackConfig) -> Result<Value, A
     Ok(Object::new(alloc).with("priority", priority)?.value())
 }
 
+const PRIORITIES: [LocaleFallbackPriority; 3] = [
+    LocaleFallbackPriority::Language,
+    LocaleFallbackPriority::Script,
+    LocaleFallbackPriority::Region,
+];
+
 fn priority_name(priority: LocaleFallbackPriority) -> &'static str {
     match priority {
         LocaleFallbackPriority::Language => "Language",
@@ -154,22 +160,27 @@ fn priority_name(priority: LocaleFallbackPriority) -> &'static str {
 }
 
 fn priority_of(given: &Value) -> Result<LocaleFallbackPriority, Wrong<'_>> {
-    match text(given)? {
-        "Language" => Ok(LocaleFallbackPriority::Language),
-        "Script" => Ok(LocaleFallbackPriority::Script),
-        "Region" => Ok(LocaleFallbackPriority::Region),
-        _ => Err(Wrong::Argument(given, "Language, Script or Region")),
+    named(given, &PRIORITIES, priority_name, "Language, Script or Region")
+}
+
+const ERRORS: [TableError; 4] = [
+    TableError::DuplicateKey(0, 0),
+    TableError::BadKey(0, 0),
+    TableError::BadValue(0, 0),
+    TableError::NoMemory,
+];
+
+fn name(error: TableError) -> &'static str {
+    match error {
+        TableError::DuplicateKey(..) => "DuplicateKey",
+        TableError::BadKey(..) => "BadKey",
+        TableError::BadValue(..) => "BadValue",
+        TableError::NoMemory => "NoMemory",
     }
 }
 
 fn error_of(given: &Value) -> Result<TableError, Wrong<'_>> {
-    match text(given)? {
-        "DuplicateKey" => Ok(TableError::DuplicateKey(0, 0)),
-        "BadKey" => Ok(TableError::BadKey(0, 0)),
-        "BadValue" => Ok(TableError::BadValue(0, 0)),
-        "NoMemory" => Ok(TableError::NoMemory),
-        _ => Err(Wrong::Argument(given, "the name of an error")),
-    }
+    named(given, &ERRORS, name, "the name of an error")
 }
 
 fn fallbacker<'a>(alloc: Global, tables: &'a Value) -> Result<LocaleFallbacker, Wrong<'a>> {
@@ -178,7 +189,7 @@ fn fallbacker<'a>(alloc: Global, tables: &'a Value) -> Result<LocaleFallbacker, 
     }
     LocaleFallbacker::try_new(alloc, &rows(alloc, tables)?).map_err(|error| match error {
         TableError::NoMemory => Wrong::NoMemory,
-        _ => Wrong::Refused(tables, error.text()),
+        _ => Wrong::Refused(tables, name(error)),
     })
 }
 

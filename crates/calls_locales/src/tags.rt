@@ -4,7 +4,7 @@ ghost use Rattle.std.specs.Prelude.{◌≤◌};
 
 use calls::answers;
 use calls::answers::Answer;
-use calls::arguments::{Wrong, bytes, text};
+use calls::arguments::{Wrong, bytes, named, text};
 use serde_json::Value;
 use std::alloc::Global;
 use tinystr::{TinyError, TinyStr};
@@ -98,6 +98,12 @@ fn two<'a, const N: usize>(
     }
 }
 
+const ERRORS: [TinyError; 3] = [
+    TinyError::TooLarge,
+    TinyError::NonAscii,
+    TinyError::ContainsNull,
+];
+
 fn name(error: TinyError) -> &'static str {
     match error {
         TinyError::TooLarge => "TooLarge",
@@ -111,11 +117,6 @@ fn error_text<'a>(alloc: Global, arguments: &'a [Value]) -> Answer<'a> {
     let [given] = arguments else {
         return Err(Wrong::Call);
     };
-    let error = match text(given)? {
-        "TooLarge" => TinyError::TooLarge,
-        "NonAscii" => TinyError::NonAscii,
-        "ContainsNull" => TinyError::ContainsNull,
-        _ => return Err(Wrong::Argument(given, "the name of an error")),
-    };
+    let error = named(given, &ERRORS, name, "the name of an error")?;
     Ok(answers::text(alloc, error.text())?)
 }

@@ -62,7 +62,8 @@ fn cause(alloc: Global, cause: BundleCause) -> Result<Value, AllocError> {
     }
 }
 
-fn cause_of(given: &Value) -> Result<BundleCause, Wrong<'_>> {
+/// The cause that an argument is.
+pub fn cause_of(given: &Value) -> Result<BundleCause, Wrong<'_>> {
     match member(given)? {
         ("Mo", error) => Ok(BundleCause::Mo(metadata::error_of(error)?)),
         _ => Err(Wrong::Argument(given, "a cause, as {\"Mo\": \"Eof\"},")),

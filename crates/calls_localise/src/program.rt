@@ -1,14 +1,15 @@
 //! Calls of the program: its words, a document, and the numbers of the pushes at which the output
 //! fails, if there are any.
 //!
-//! A document is a text; an object with the member `most`, which is a source (see `sources`); or any
-//! other value, which is its own text. A run is answered by its status and exit code, and by what
-//! the output and the error sink took.
+//! A document is a text; an object with the member `most`, which is a source (see
+//! `calls::scripts`); or any other value, which is its own text. A run is answered by its status and
+//! exit code, and by what the output and the error sink took. A status is its name, or
+//! `{"Bundle": [number, cause]}`.
 
-use crate::localising::refused_bundle;
+use crate::localising::{cause_of, refused_bundle};
 use calls::answers;
 use calls::answers::{Answer, Object};
-use calls::arguments::{Wrong, list, numbers, text};
+use calls::arguments::{Wrong, list, member, named, numbers, size, text};
 use calls::scripts::{Script, script_of};
 use localise_run::{Status, run};
 use serde_json::Value;
@@ -27,6 +28,7 @@ pub fn answer<'a>(alloc: Global, call: &str, arguments: &'a [Value]) -> Answer<'
             let failing = numbers(alloc, failing)?;
             run_into(alloc, &words, &document(alloc, given)?, failing)
         }
+        ("Status::code", [status]) => Ok(exit_code(status_of(status)?)),
         _ => Err(Wrong::Call),
     }
 }
@@ -58,7 +60,7 @@ fn run_into<'a>(
     let status = run(alloc, words, &mut document.source(), &mut out, &mut err);
     let output = Value::String(out.into_string());
     let errors = Value::String(err.into_string());
-    let code = answers::number(u64::from(status.code()));
+    let code = exit_code(status);
     let status = status_answer(alloc, status)?;
     Ok(
         Object::new(alloc)
@@ -70,20 +72,52 @@ fn run_into<'a>(
     )
 }
 
+fn exit_code(status: Status) -> Value {
+    answers::number(u64::from(status.code()))
+}
+
 /// The status's name, with the bundle and its cause where one is refused.
 fn status_answer(alloc: Global, status: Status) -> Result<Value, AllocError> {
-    let name = match status {
-        Status::Bundle(bundle, error) => {
-            return refused_bundle(alloc, bundle, error);
-        }
+    match status {
+        Status::Bundle(bundle, error) => refused_bundle(alloc, bundle, error),
+        _ => answers::text(alloc, name(status)),
+    }
+}
+
+const STATUSES: [Status; 8] = [
+    Status::Done,
+    Status::BadWords,
+    Status::NotJson,
+    Status::ReadFault,
+    Status::WriteFault,
+    Status::NoMemory,
+    Status::TooLong,
+    Status::NotBuilt,
+];
+
+fn name(status: Status) -> &'static str {
+    match status {
         Status::Done => "Done",
         Status::BadWords => "BadWords",
         Status::NotJson => "NotJson",
+        Status::Bundle(..) => "Bundle",
         Status::ReadFault => "ReadFault",
         Status::WriteFault => "WriteFault",
         Status::NoMemory => "NoMemory",
         Status::TooLong => "TooLong",
         Status::NotBuilt => "NotBuilt",
-    };
-    answers::text(alloc, name)
+    }
+}
+
+fn status_of(given: &Value) -> Result<Status, Wrong<'_>> {
+    if given.is_string() {
+        return named(given, &STATUSES, name, "the name of a status");
+    }
+    match member(given)? {
+        ("Bundle", inner) => match list(inner)? {
+            [bundle, cause] => Ok(Status::Bundle(size(bundle)?, cause_of(cause)?)),
+            _ => Err(Wrong::Argument(inner, "a list of a bundle's number and a cause")),
+        },
+        _ => Err(Wrong::Argument(given, "a status")),
+    }
 }

@@ -4,10 +4,12 @@
 //! - `tries`: values that may have an error.
 //! - `hints`: length hints.
 //! - `sinks`: sinks, and lists of texts.
+//! - `parts`: parts, and a sink of parts.
 //! - `sources`: sources.
 #![tactic(auto)]
 
 mod hints;
+mod parts;
 mod sinks;
 mod sources;
 mod texts;

@@ -1,15 +1,18 @@
-//! Calls of sinks. The pieces that are pushed are a list of texts and `{"char": ".."}`; each push is
-//! answered by `Ok` or by the name of its error, and beside them stands what the sink holds.
+//! Calls of sinks. The pieces that are pushed are a list of texts, which `push_str` takes, and of
+//! `{"char": ".."}`, which `push_char` takes; each push is answered by `Ok` or by the name of its
+//! error, and beside them stands what the sink holds. A sink of parts takes marks too: see `parts`.
 
 ghost use Rattle.std.specs.Prelude.{◌≤◌};
 
+use crate::parts;
+use crate::parts::{Piece, piece_of};
 use calls::answers;
 use calls::answers::{Answer, Object};
-use calls::arguments::{Wrong, character, list, member, numbers, text};
+use calls::arguments::{Wrong, list, named, numbers, text};
 use serde_json::Value;
 use std::alloc::{AllocError, Global};
 use writeable::{
-    CountSink, FixedSink, OwnedText, PartsSink, ScriptSink, Sink, SinkError, StringSink, TextList,
+    CountSink, FixedSink, OwnedText, ScriptSink, Sink, SinkError, StringSink, TextList,
 };
 
 /// A call of a sink, or of a list of texts, by its path.
@@ -22,11 +25,7 @@ pub fn answer<'a>(alloc: Global, call: &str, arguments: &'a [Value]) -> Answer<'
             let pushes = pushes(alloc, &mut sink, pieces)?;
             Ok(held(alloc, pushes, sink.as_str())?)
         }
-        ("PartsSink::push", [pieces]) => {
-            let mut sink = PartsSink::new(alloc);
-            let pushes = pushes(alloc, &mut sink, pieces)?;
-            Ok(held(alloc, pushes, sink.as_str())?)
-        }
+        ("PartsSink::push", [pieces]) => parts::answer(alloc, pieces),
         ("ScriptSink::push", [failing, pieces]) => {
             let mut sink = ScriptSink::new(alloc, numbers(alloc, failing)?);
             let pushes = pushes(alloc, &mut sink, pieces)?;
@@ -82,14 +81,14 @@ fn pushes<'a, S: Sink>(alloc: Global, sink: &mut S, pieces: &'a Value) -> Answer
 }
 
 fn push<'a, S: Sink>(sink: &mut S, piece: &'a Value) -> Result<Result<(), SinkError>, Wrong<'a>> {
-    if let Value::String(text) = piece {
-        return Ok(sink.push_str(text.as_str()));
-    }
-    match member(piece)? {
-        ("char", c) => Ok(sink.push_char(character(c)?)),
-        _ => Err(Wrong::Argument(piece, "a text or a char")),
+    match piece_of(piece)? {
+        Piece::Text(text) => Ok(sink.push_str(text)),
+        Piece::Character(c) => Ok(sink.push_char(c)),
+        Piece::Open(_) | Piece::Close => Err(Wrong::Argument(piece, "a text or a char")),
     }
 }
+
+const ERRORS: [SinkError; 2] = [SinkError::Fault, SinkError::NoMemory];
 
 pub fn name(error: SinkError) -> &'static str {
     match error {
@@ -99,11 +98,7 @@ pub fn name(error: SinkError) -> &'static str {
 }
 
 fn error_of(given: &Value) -> Result<SinkError, Wrong<'_>> {
-    match text(given)? {
-        "Fault" => Ok(SinkError::Fault),
-        "NoMemory" => Ok(SinkError::NoMemory),
-        _ => Err(Wrong::Argument(given, "the name of an error")),
-    }
+    named(given, &ERRORS, name, "the name of an error")
 }
 
 fn listed<'a>(alloc: Global, given: &'a Value) -> Answer<'a> {

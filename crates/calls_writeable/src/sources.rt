@@ -1,6 +1,6 @@
 //! Calls of sources. Bytes are read into buffers of the listed sizes; each read is answered by the
-//! bytes that it gave, in hexadecimal, or by its refusal.
-//! A source is said as `calls::scripts` has it.
+//! bytes that it gave, in hexadecimal, or by its refusal. A source is said as `calls::scripts` has
+//! it.
 
 use calls::answers;
 use calls::answers::Answer;
@@ -25,10 +25,17 @@ pub fn answer<'a>(alloc: Global, call: &str, arguments: &'a [Value]) -> Answer<'
     }
 }
 
+/// The largest buffer that a line reads into.
+const LARGEST: usize = 65_536;
+
 fn reads<'a, S: Source>(alloc: Global, source: &mut S, sizes: &'a Value) -> Answer<'a> {
     let mut answers = Vec::new(alloc);
     for given in list(sizes)? {
-        answers.push(read(alloc, source, size(given)?)?)?;
+        let size = size(given)?;
+        if size > LARGEST {
+            return Err(Wrong::Argument(given, "a size up to 65536"));
+        }
+        answers.push(read(alloc, source, size)?)?;
     }
     Ok(Value::Array(answers))
 }

@@ -1,10 +1,11 @@
 //! Calls of values that write a text.
 //!
 //! A value is a text, which is a `Text`, or an object of one member: its type, and what it is made
-//! of. A number is the text of its digits. Items of `Concat` and `WithPart` are texts, `{"char": ..}`,
-//! `{"u64": ..}` and `{"Part": [category, value, text]}`. `lower` is the text in ASCII lower case,
-//! lent where it has no other letters.
+//! of. A number is the text of its digits. Items of `Concat` and `WithPart` are texts,
+//! `{"char": ..}`, `{"u64": ..}` and `{"Part": [category, value, text]}`. `lower` is the text in
+//! ASCII lower case, lent where it has no other letters.
 
+use crate::parts::part;
 use crate::sinks;
 use crate::tries::attempt;
 use calls::answers;
@@ -21,7 +22,7 @@ use writeable::adapters::{
     WriteableAsTryWriteableInfallible,
 };
 use writeable::{
-    CountSink, FixedSink, OwnedText, Part, StringSink, Text, Writeable, cmp_str, cmp_utf8,
+    CountSink, FixedSink, OwnedText, StringSink, Text, Writeable, cmp_str, cmp_utf8,
     concat_writeable, to_string_or_borrow,
 };
 
@@ -236,15 +237,4 @@ fn text_in_part(value: &Value) -> Result<WithPart<Text<'_>>, Wrong<'_>> {
         }),
         _ => Err(Wrong::Argument(value, "a part's category and value, and a text")),
     }
-}
-
-/// A part that a line can name: a part's names are known when the program is built.
-fn part<'a>(category: &'a Value, name: &'a Value) -> Result<Part, Wrong<'a>> {
-    let (category, value) = match (text(category)?, text(name)?) {
-        ("foo", "word") => ("foo", "word"),
-        ("foo", "bar") => ("foo", "bar"),
-        ("foo2", "bar2") => ("foo2", "bar2"),
-        _ => return Err(Wrong::Argument(name, "foo word, foo bar or foo2 bar2")),
-    };
-    Ok(Part { category, value })
 }

@@ -1,8 +1,8 @@
 //! Calls of values that may be wrong.
 //!
-//! A value is an object of one member: `Ok` and a text; `Err` and a text or a small number, which is
-//! the error and is written in the text's place; `Concat` and two of them; `&` and one. An error is
-//! answered as the text that it writes.
+//! A value is an object of one member: `Ok` and a text; `Err` and a text or a small number, which
+//! is the error and is written in the text's place; `Concat` and two of them; `&` and one. An error
+//! is answered as the text that it writes.
 
 use calls::answers;
 use calls::answers::{Answer, Object};

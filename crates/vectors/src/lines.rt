@@ -5,7 +5,7 @@ use calls::arguments::Wrong;
 use calls_catalogs::reads;
 use calls_locales::{fallback, locales, tags};
 use calls_localise::{localising, program};
-use serde_json::Value;
+use serde_json::{Error, Value};
 use std::alloc::{AllocError, Global};
 
 /// The answer to a line. A line that is a JSON text is a heading, and is answered by itself.
@@ -16,20 +16,25 @@ pub fn answer_line(alloc: Global, line: &[u8]) -> Result<Value, AllocError> {
             if error.is_memory() {
                 return Err(AllocError);
             }
-            return wrong(alloc, format!(in alloc; "the line isn't JSON: {error}")?);
+            return wrong(alloc, unread(alloc, error)?);
         }
     };
     match line {
         Value::String(heading) => Ok(Value::String(heading)),
         Value::Array(call) => answer_call(alloc, &call),
-        _ => wrong(
-            alloc,
-            String::from_str(
-                alloc,
-                "the line is to be a JSON array: a call's path, and its arguments",
-            )?,
-        ),
+        _ => wrong(alloc, String::from_str(alloc, A_LINE)?),
     }
+}
+
+const A_LINE: &str = "the line is to be a JSON array: a call's path, and its arguments";
+
+/// What is wrong with a line that isn't JSON, with the first byte of what can't be read.
+fn unread(alloc: Global, error: Error) -> Result<String, AllocError> {
+    if error.is_eof() {
+        return format!(in alloc; "{A_LINE}; it ends too early");
+    }
+    let column = error.column();
+    format!(in alloc; "{A_LINE}; what begins at byte {column} can't be read")
 }
 
 fn answer_call(alloc: Global, call: &[Value]) -> Result<Value, AllocError> {

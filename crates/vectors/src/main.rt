@@ -30,7 +30,7 @@ fn main(rt: HostRuntime) -> io::Result<()> {
         if input.read_until(b'\n', &mut line)? == 0 {
             break;
         }
-        let answer = lines::answer_line(alloc, &line)?;
+        let answer = lines::answer_line(alloc, line.trim_ascii_end())?;
         writeln!(output, "{answer}")?;
     }
     output.flush()
