@@ -1,0 +1,14 @@
+pub mod Expression
+pub mod Meaning
+pub mod Positions
+pub mod Syntax
+pub mod Parsing
+pub mod Sets
+pub mod Compiled
+pub mod Building
+pub mod Machine
+pub mod Steps
+pub mod Stepping
+pub mod SteppingLaws
+pub mod Words
+pub mod Refusals

@@ -1,0 +1,17 @@
+-- One step of the automaton, and what the positions that a text reaches tell.
+use Rattle.std.specs.Prelude.{◌≡◌, ℕ, Bool, true, ◌&&◌, Option, Some, None, slice_index, ◌⊎◌}
+use Rattle.lazy_dfa.specs.Machine.{Machine}
+use Rattle.lazy_dfa.specs.Sets.{has, any_below, Meet}
+
+-- whether the atom at the place q can read the next character
+abbrev pub next_has : Machine → Option ℕ → ℕ → Bool
+next_has m None q = has m.whole.first q
+next_has m (Some set) q = any_below m.size (λ p. has set p && has (slice_index m.follow p) q)
+
+abbrev pub IsDecidedAt : Machine → Option ℕ → Type 0
+IsDecidedAt m None = m.whole.empty ≡ true
+IsDecidedAt m (Some set) = (set ≡ 0) ⊎ Meet set m.whole.last
+
+abbrev pub HoldsAt : Machine → Option ℕ → Type 0
+HoldsAt m None = m.whole.empty_at_end ≡ true
+HoldsAt m (Some set) = Meet set m.whole.last_at_end

@@ -1,0 +1,152 @@
+//! Stepping through a text.
+
+ghost use Rattle.std.specs.Prelude.{◌≡◌, ◌↔◌, ◌++◌, ◌∷◌, [], ℕ, List, false, None};
+ghost use Rattle.std.specs.Prelude.{OnErr, OnOk, IsTrue, MatchResult};
+ghost use Rattle.std.specs.Str.{chars};
+ghost use Rattle.std.proofs.Common.{rules};
+ghost use Rattle.lazy_dfa.specs.Expression.{Expression};
+ghost use Rattle.lazy_dfa.specs.Machine.{IsFor};
+ghost use Rattle.lazy_dfa.specs.Meaning.{early, holds};
+ghost use Rattle.lazy_dfa.specs.Stepping.{Decided, Decides, HasRead, Took, begun};
+ghost use Rattle.lazy_dfa.specs.SteppingLaws.{Took-nothing, Took-both};
+ghost use Rattle.writeable_core.specs.Sink.{TookPrefix, HasCause, Rose};
+
+use crate::condition::Condition;
+use crate::positions::Positions;
+use std::marker::Model;
+use writeable_core::{Sink, SinkError};
+
+/// A sink that steps through a text, piece by piece, without memory. It faults where the condition
+/// is decided, and takes nothing from then on.
+#[derive(Drop)]
+pub struct Stepper<'a> {
+    condition: &'a Condition,
+    /// The positions that the text so far reaches, where there is a character.
+    reached: Option<Positions>,
+    refusals: u64,
+}
+
+impl<'a> Model for Stepper<'a> {
+    ghost use Rattle.lazy_dfa.specs.Stepping.{Progress};
+
+    ghost Value = { Progress };
+
+    ghost view = { λ s.
+        record { machine = s.condition.now; reached = s.reached; refusals = s.refusals } };
+}
+
+impl Stepper<'_> {
+    pub(crate) fn new(condition: &Condition) -> Stepper<'_>
+        ensures { result ≡ begun condition.now }
+    {
+        Stepper {
+            condition,
+            reached: None,
+            refusals: 0,
+        }
+    }
+
+    /// Whether the condition holds on the text that was pushed. A decided answer stays.
+    pub fn answer(&self) -> bool
+        ensures holds { (c : Expression) (u : List ℕ) →
+            IsFor self.now.machine c → HasRead c u self.now → IsTrue result ↔ holds c u }
+        ensures decided { (c : Expression) (u : List ℕ) →
+            IsFor self.now.machine c → HasRead c u self.now → Decided c u →
+            IsTrue result ↔ early c u }
+    {
+        self.condition.holds_at(self.reached)
+    }
+
+    fn is_decided(&self) -> bool
+        ensures { (c : Expression) (u : List ℕ) →
+            IsFor self.now.machine c → HasRead c u self.now → IsTrue result ↔ Decided c u }
+    {
+        self.condition.is_decided(self.reached)
+    }
+}
+
+impl Stepper<'_> {
+    /// Counts a refused push: the condition is decided.
+    fn refuse(&mut self) -> SinkError
+        requires { (c : Expression) (u : List ℕ) →
+            IsFor self.old.machine c → HasRead c u self.old → Decided c u }
+        ensures fault { result ≡ SinkError.Fault }
+        ensures took { Took self.old [] self.new }
+        ensures rose { Rose self.old.refusals self.new.refusals }
+    {
+        self.refusals = self.refusals.saturating_add(1);
+        SinkError::Fault
+    }
+
+    /// Takes a character. It is refused where it decides the condition.
+    fn advance(&mut self, c: char) -> Result<(), SinkError>
+        requires { (e : Expression) (u : List ℕ) →
+            IsFor self.old.machine e → HasRead e u self.old → Decided e u → ⊥ }
+        ensures took { Took self.old (c ∷ []) self.new }
+        ensures kept { OnOk result (self.new.refusals ≡ self.old.refusals) }
+        ensures undecided { OnOk result ((e : Expression) (u : List ℕ) →
+            IsFor self.new.machine e → HasRead e u self.new → Decided e u → ⊥) }
+        ensures cause { HasCause self.old.refusals self.new.refusals false result }
+        ensures decides { (e : Expression) (u : List ℕ) →
+            IsFor self.old.machine e → HasRead e u self.old →
+            MatchResult result
+            (λ _. Decided e (u ++ c ∷ []) → ⊥) (λ _. Decided e (u ++ c ∷ [])) }
+    {
+        self.reached = Some(self.condition.step(self.reached, c));
+        if self.is_decided() {
+            return Err(self.refuse());
+        }
+        Ok(())
+    }
+}
+
+impl Sink for Stepper<'_> {
+    ghost took = { Took };
+
+    ghost held = { λ _. None };
+
+    ghost faults = { λ s. s.refusals };
+
+    ghost takes_memory = { λ _. false };
+
+    ghost took_nothing = { Took-nothing };
+
+    ghost took_both = { Took-both };
+
+    ghost took_held = { λ a b t h p q. Prim.cc };
+
+    ghost took_faults = { λ a b t p. p.later };
+
+    ghost took_memory = { Prim.search rules };
+
+    fn push_str(&mut self, piece: &str) -> Result<(), SinkError>
+        ensures ok { OnOk result (Took self.old (chars piece.now) self.new) }
+        ensures err { OnErr result (TookPrefix Took self.old (chars piece.now) self.new) }
+        ensures cause { HasCause self.old.refusals self.new.refusals false result }
+        ensures decides { (e : Expression) (u : List ℕ) →
+            IsFor self.old.machine e → HasRead e u self.old →
+            Decides e u (chars piece.now) self.old result self.new }
+    {
+        if self.is_decided() {
+            return Err(self.refuse());
+        }
+        for c in piece.chars() {
+            self.advance(c)?;
+        }
+        Ok(())
+    }
+
+    fn push_char(&mut self, c: char) -> Result<(), SinkError>
+        ensures ok { OnOk result (Took self.old (c ∷ []) self.new) }
+        ensures err { OnErr result (TookPrefix Took self.old (c ∷ []) self.new) }
+        ensures cause { HasCause self.old.refusals self.new.refusals false result }
+        ensures decides { (e : Expression) (u : List ℕ) →
+            IsFor self.old.machine e → HasRead e u self.old →
+            Decides e u (c ∷ []) self.old result self.new }
+    {
+        if self.is_decided() {
+            return Err(self.refuse());
+        }
+        self.advance(c)
+    }
+}
