@@ -1,12 +1,12 @@
 -- What pushes do to a stepper.
-use Rattle.std.proofs.Common.{◌≡◌, ◌↔◌, ℕ, suc, ◌+◌, ◌≤◌, ◌<◌, Bool, true, false, List, [], ◌∷◌, ◌++◌, length, take, drop, get_or, Option, Some, Result, Ok, Err, ◌⊎◌, inl, inr, refl, sym, ap, subst, ◌∙◌, arith, length-append, append_assoc, append-nil}
+use Rattle.std.proofs.Common.{◌≡◌, ◌↔◌, ℕ, suc, ◌+◌, ◌≤◌, ◌<◌, Bool, true, false, List, [], ◌∷◌, ◌++◌, length, take, drop, get_or, Option, Some, None, Result, Ok, Err, ◌⊎◌, inl, inr, refl, sym, ap, subst, ◌∙◌, arith, length-append, append_assoc, append-nil}
 use Rattle.std.specs.Prelude.{MatchBool, MatchResult, ◌&&◌}
 use Rattle.lazy_dfa.specs.Expression.{Expression}
 use Rattle.lazy_dfa.specs.Meaning.{holds, early, front}
 use Rattle.lazy_dfa.specs.Compiled.{atom_reads}
 use Rattle.lazy_dfa.specs.Machine.{Machine, IsFor}
 use Rattle.lazy_dfa.specs.Sets.{has}
-use Rattle.lazy_dfa.specs.Steps.{next_has, IsDecidedAt, HoldsAt}
+use Rattle.lazy_dfa.specs.Steps.{next_has, IsDecidedAt, HoldsAt, IsStep}
 use Rattle.lazy_dfa.specs.Stepping.{Progress, Decided, HasRead, Took, NoneDecides, TookShortest, Decides}
 use Rattle.lazy_dfa.specs.SteppingLaws.{Took-nothing, Took-both}
 use Rattle.lazy_dfa.proofs.Texts.{holds_early, holds_longer}
@@ -205,6 +205,10 @@ pub advanced_of : (s : Progress) (m : Machine) (r : Option ℕ) (k d set : ℕ) 
     → Took s (d ∷ []) (seen m (Some set) k)
 advanced_of s m r k d set e undecided step =
     subst (λ (x : Progress). Took x (d ∷ []) (seen m (Some set) k)) e (advanced (seen m r k) d set (subst IsUndecided (sym e) undecided) step)
+
+pub advanced_to : (s : Progress) (m : Machine) (r : Option ℕ) (k d : ℕ) (now : Option ℕ) → seen m r k ≡ s → IsUndecided s → IsStep m r d now → Took s (d ∷ []) (seen m now k)
+advanced_to s m r k d None e undecided step = absurd step
+advanced_to s m r k d (Some set) e undecided step = advanced_of s m r k d set e undecided step
 
 pub for_seen : (s : Progress) (m : Machine) (r : Option ℕ) (k : ℕ) → seen m r k ≡ s → (c : Expression) → IsFor s.machine c → IsFor m c
 for_seen s m r k e c f = subst (λ (x : Progress). IsFor x.machine c) (sym e) f

@@ -12,7 +12,7 @@ use Rattle.lazy_dfa.specs.Expression.{negated_if}
 use Rattle.lazy_dfa.specs.Sets.{has, any_below, Meet}
 
 -- a bit is 0 or 1
-bit_cases : (n i : ℕ) → (bit_at n i ≡ 0) ⊎ (bit_at n i ≡ 1)
+pub bit_cases : (n i : ℕ) → (bit_at n i ≡ 0) ⊎ (bit_at n i ≡ 1)
 bit_cases n i = elim (cases_eq (bit_at n i) 0) [
   | inl x ↦ inl x
   | inr x ↦ inr (let lt = bit_at-lt n i in omega arith)

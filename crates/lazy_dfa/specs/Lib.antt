@@ -9,6 +9,7 @@ pub mod Building
 pub mod Machine
 pub mod Steps
 pub mod Stepping
+pub mod States
 pub mod SteppingLaws
 pub mod Words
 pub mod Refusals

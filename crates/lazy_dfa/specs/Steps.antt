@@ -1,5 +1,6 @@
 -- One step of the automaton, and what the positions that a text reaches tell.
 use Rattle.std.specs.Prelude.{◌≡◌, ℕ, Bool, true, ◌&&◌, Option, Some, None, slice_index, ◌⊎◌}
+use Rattle.lazy_dfa.specs.Compiled.{atom_reads}
 use Rattle.lazy_dfa.specs.Machine.{Machine}
 use Rattle.lazy_dfa.specs.Sets.{has, any_below, Meet}
 
@@ -7,6 +8,11 @@ use Rattle.lazy_dfa.specs.Sets.{has, any_below, Meet}
 abbrev pub next_has : Machine → Option ℕ → ℕ → Bool
 next_has m None q = has m.whole.first q
 next_has m (Some set) q = any_below m.size (λ p. has set p && has (slice_index m.follow p) q)
+
+-- what is reached with the character d more
+abbrev pub IsStep : Machine → Option ℕ → ℕ → Option ℕ → Type 0
+IsStep m r d None = ⊥
+IsStep m r d (Some set) = (q : ℕ) → has set q ≡ (next_has m r q && atom_reads m.ranges m.negated q d)
 
 abbrev pub IsDecidedAt : Machine → Option ℕ → Type 0
 IsDecidedAt m None = m.whole.empty ≡ true

@@ -15,6 +15,7 @@
 //! - `stepper`: the sink that steps through a text.
 //! - `laws`: laws of the definitions, for contracts above.
 //! - `parser`, `characters`: reading a pattern.
+//! - `matcher`, `table`: stepping by sets of positions, or by a table of states.
 //! - `automaton`, `part`, `positions`: which of a pattern's atoms can read first, last, and behind
 //!   which.
 #![tactic(auto)]
@@ -24,10 +25,12 @@ mod characters;
 mod condition;
 mod error;
 mod laws;
+mod matcher;
 mod parser;
 mod part;
 mod positions;
 mod stepper;
+mod table;
 
 pub use condition::Condition;
 pub use error::ConditionError;
