@@ -9,7 +9,8 @@ use Rattle.lazy_dfa.specs.Compiled.{atom_reads}
 use Rattle.lazy_dfa.specs.Machine.{Machine, IsFor}
 use Rattle.lazy_dfa.specs.Sets.{has, any_below, Meet}
 use Rattle.lazy_dfa.specs.Steps.{next_has, IsDecidedAt, HoldsAt}
-use Rattle.lazy_dfa.specs.Stepping.{Decided, IsReached}
+use Rattle.lazy_dfa.specs.Stepping.{Decided}
+use Rattle.lazy_dfa.specs.Progress.{IsReached}
 use Rattle.lazy_dfa.proofs.Sets.{has-none, some_in, any_below-some, any_below-from}
 use Rattle.lazy_dfa.proofs.Bounds.{Reaches_is}
 use Rattle.lazy_dfa.proofs.Texts.{empty_more, last_more, holds_by, holds_empty, holds_cases, early_longer, after_first, first_after, after_follow, follow_after, early_by, early_empty, empty_early, early_more, after_within}

@@ -8,7 +8,8 @@ use Rattle.writeable_core.specs.Sink.{TookPrefix, HasCause}
 use Rattle.lazy_dfa.specs.Expression.{Expression}
 use Rattle.lazy_dfa.specs.Meaning.{early, front, holds}
 use Rattle.lazy_dfa.specs.Machine.{Machine, IsFor}
-use Rattle.lazy_dfa.specs.Stepping.{Progress, begun, Decided, HasRead, Took}
+use Rattle.lazy_dfa.specs.Stepping.{Decided, HasRead, Took}
+use Rattle.lazy_dfa.specs.Progress.{Progress, begun}
 use Rattle.lazy_dfa.specs.SteppingLaws.{read_from_begin}
 use Rattle.lazy_dfa.proofs.Texts.{early_longer, holds_early, holds_longer}
 

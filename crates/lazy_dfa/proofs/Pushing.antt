@@ -7,7 +7,8 @@ use Rattle.lazy_dfa.specs.Compiled.{atom_reads}
 use Rattle.lazy_dfa.specs.Machine.{Machine, IsFor}
 use Rattle.lazy_dfa.specs.Sets.{has}
 use Rattle.lazy_dfa.specs.Steps.{next_has, IsDecidedAt, HoldsAt, IsStep}
-use Rattle.lazy_dfa.specs.Stepping.{Progress, Decided, HasRead, Took, NoneDecides, TookShortest, Decides}
+use Rattle.lazy_dfa.specs.Stepping.{Decided, HasRead, Took, NoneDecides, TookShortest, Decides}
+use Rattle.lazy_dfa.specs.Progress.{Progress}
 use Rattle.lazy_dfa.specs.SteppingLaws.{Took-nothing, Took-both}
 use Rattle.lazy_dfa.proofs.Texts.{holds_early, holds_longer}
 use Rattle.lazy_dfa.proofs.Advancing.{decided_at, at_decided, holds_there, there_holds, step_reached, open_longer}

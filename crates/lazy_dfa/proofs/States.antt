@@ -27,7 +27,7 @@ use Rattle.lazy_dfa.specs.Machine.{Machine, IsFor}
 use Rattle.lazy_dfa.specs.Refusals.{HasManyStates}
 use Rattle.lazy_dfa.specs.Sets.{has}
 use Rattle.lazy_dfa.specs.Steps.{next_has, IsStep}
-use Rattle.lazy_dfa.specs.Stepping.{IsReached}
+use Rattle.lazy_dfa.specs.Progress.{IsReached}
 use Rattle.lazy_dfa.specs.States.{MakesRow, Keeps, Numbers, IsAtRow, IsNext, ContainsNext, IsEdged, IsClasses, IsInClass, state, IsReachable, AreFound, IsLonger, IsNew, IsAdded, IsRow, AreRows, IsTable, IsTooLarge}
 use Rattle.lazy_dfa.proofs.Sets.{bit_cases}
 use Rattle.lazy_dfa.proofs.Advancing.{step_reached}

@@ -1,4 +1,4 @@
--- What reading a part of a condition into an automaton gives.
+-- How the crate works: what reading a part of a condition into an automaton gives.
 use Rattle.std.specs.Borrow.{Bor}
 use Rattle.std.specs.declared.alloc.AllocError.{AllocError}
 use Rattle.std.specs.Prelude.{◌≡◌, ℕ, ◌+◌, ◌*◌, ◌^◌, ◌≤◌, ◌<◌, List, length, Bool, Option, Some, None, Result, Ok, Err}

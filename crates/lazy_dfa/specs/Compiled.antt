@@ -1,4 +1,4 @@
--- What a contract sees of a condition, and when it is that of an expression.
+-- How the crate works: when an automaton is that of an expression.
 use Rattle.std.specs.Prelude.{◌≡◌, ℕ, ◌+◌, ◌≤◌, ◌<◌, Bool, true, false, ◌&&◌, ◌||◌, List, ◌++◌, map, slice_index}
 use Rattle.std.specs.List.{list_any}
 use Rattle.lazy_dfa.specs.declared.automaton.Automaton.{Automaton}

@@ -8,6 +8,7 @@ pub mod Compiled
 pub mod Building
 pub mod Machine
 pub mod Steps
+pub mod Progress
 pub mod Stepping
 pub mod States
 pub mod SteppingLaws

@@ -1,4 +1,5 @@
--- What a contract sees of a condition: the position automaton, without what stands beside it for speed.
+-- How the crate works: what a contract sees of a condition, and which expressions it is for. It is the position
+-- automaton, without the state table beside it.
 use Rattle.std.specs.Prelude.{◌≡◌, ℕ, List, slice_index}
 use Rattle.lazy_dfa.specs.declared.automaton.Automaton.{Automaton}
 use Rattle.lazy_dfa.specs.declared.automaton.Range.{Range}

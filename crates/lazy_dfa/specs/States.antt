@@ -1,4 +1,4 @@
--- The state table: how the crate steps where a condition has one. A state is what a text reaches: nothing before its
+-- How the crate works: the state table, by which it steps where a condition has one. A state is what a text reaches: nothing before its
 -- first character, and then a set of positions.
 use Rattle.std.specs.Prelude.{◌≡◌, ℕ, zero, suc, ◌+◌, ◌≤◌, ◌<◌, List, length, slice_index, slice_index_or, Option, Some, None, Result, Ok, Err, [], ◌∷◌, ◌++◌, ◌⊎◌}
 use Rattle.std.specs.Char.{IsScalar}
@@ -15,7 +15,7 @@ use Rattle.lazy_dfa.specs.Expression.{Expression}
 use Rattle.lazy_dfa.specs.Machine.{Machine, IsFor, machine_of}
 use Rattle.lazy_dfa.specs.Refusals.{HasManyStates}
 use Rattle.lazy_dfa.specs.Steps.{IsStep}
-use Rattle.lazy_dfa.specs.Stepping.{IsReached}
+use Rattle.lazy_dfa.specs.Progress.{IsReached}
 
 -- ---- classes of characters
 

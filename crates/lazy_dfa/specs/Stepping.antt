@@ -1,29 +1,13 @@
--- A text that a condition reads a piece at a time.
-use Rattle.std.specs.Prelude.{◌≡◌, ◌↔◌, ℕ, ◌≤◌, ◌<◌, true, List, [], ◌++◌, length, Option, Some, None, Result, Ok, Err, ◌⊎◌}
+-- Reading a text a piece at a time: when a condition is decided, what a stepper has read, and what a push takes.
+use Rattle.std.specs.Prelude.{◌≡◌, ◌≤◌, ◌<◌, ℕ, List, ◌++◌, length, Result, Ok, Err, ◌⊎◌}
 use Rattle.lazy_dfa.specs.Expression.{Expression}
-use Rattle.lazy_dfa.specs.Meaning.{early, after, front}
-use Rattle.lazy_dfa.specs.Machine.{Machine, IsFor}
-use Rattle.lazy_dfa.specs.Sets.{has}
-
--- what a contract sees of a stepper: the condition, the positions that the text so far reaches (none before its first
--- character), and how many pushes were refused
-pub record Progress : Type 0 where
-  pub machine : Machine
-  pub reached : Option ℕ
-  pub refusals : ℕ
-
--- a stepper as it is made
-abbrev pub begun : Machine → Progress
-begun m = record { machine = m; reached = None; refusals = 0 }
+use Rattle.lazy_dfa.specs.Meaning.{early, front}
+use Rattle.lazy_dfa.specs.Machine.{IsFor}
+use Rattle.lazy_dfa.specs.Progress.{Progress, IsReached}
 
 -- the condition is decided by the text: it holds whatever follows, or fails whatever follows
 abbrev pub Decided : Expression → List ℕ → Type 0
 Decided c u = early c u ⊎ (front c u → ⊥)
-
--- the positions are those that the text reaches
-abbrev pub IsReached : Expression → List ℕ → Option ℕ → Type 0
-IsReached c u None = u ≡ []
-IsReached c u (Some set) = (0 < length u) × ((p : ℕ) → (has set p ≡ true) ↔ after c u p)
 
 -- The stepper read the text. It passed no place at which the condition holds whatever follows, and refused a push
 -- only where the condition was decided.

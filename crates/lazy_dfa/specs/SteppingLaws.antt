@@ -3,7 +3,8 @@ use Rattle.std.specs.Prelude.{ℕ, List, [], ◌++◌, length}
 use Rattle.std.proofs.Common.{refl, sym, ap, subst, ◌∙◌, append-nil, append_assoc, arith, length-append}
 use Rattle.lazy_dfa.specs.Expression.{Expression}
 use Rattle.lazy_dfa.specs.Machine.{Machine, IsFor}
-use Rattle.lazy_dfa.specs.Stepping.{Progress, HasRead, Took, begun}
+use Rattle.lazy_dfa.specs.Stepping.{HasRead, Took}
+use Rattle.lazy_dfa.specs.Progress.{Progress, begun}
 
 pub Took-nothing : (s : Progress) → Took s [] s
 Took-nothing s = record {

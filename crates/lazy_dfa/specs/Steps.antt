@@ -1,4 +1,4 @@
--- One step of the automaton, and what the positions that a text reaches tell.
+-- How the crate works: one step of the automaton, and what the positions that a text reaches tell.
 use Rattle.std.specs.Prelude.{◌≡◌, ℕ, Bool, true, ◌&&◌, Option, Some, None, slice_index, ◌⊎◌}
 use Rattle.lazy_dfa.specs.Compiled.{atom_reads}
 use Rattle.lazy_dfa.specs.Machine.{Machine}

@@ -37,7 +37,7 @@ impl Condition {
     ghost use Rattle.lazy_dfa.specs.Expression.{Expression};
     ghost use Rattle.lazy_dfa.specs.Machine.{IsFor};
     ghost use Rattle.lazy_dfa.specs.Meaning.{holds};
-    ghost use Rattle.lazy_dfa.specs.Stepping.{begun};
+    ghost use Rattle.lazy_dfa.specs.Progress.{begun};
     ghost use Rattle.lazy_dfa.specs.Refusals.{HasManyStates, IsRefused, IsUnread, condition};
     ghost use Rattle.lazy_dfa.specs.Syntax.{alt};
 

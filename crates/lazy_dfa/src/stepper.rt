@@ -7,7 +7,8 @@ ghost use Rattle.std.proofs.Common.{rules};
 ghost use Rattle.lazy_dfa.specs.Expression.{Expression};
 ghost use Rattle.lazy_dfa.specs.Machine.{IsFor};
 ghost use Rattle.lazy_dfa.specs.Meaning.{early, holds};
-ghost use Rattle.lazy_dfa.specs.Stepping.{Decided, Decides, HasRead, Took, begun};
+ghost use Rattle.lazy_dfa.specs.Stepping.{Decided, Decides, HasRead, Took};
+ghost use Rattle.lazy_dfa.specs.Progress.{begun};
 ghost use Rattle.lazy_dfa.specs.SteppingLaws.{Took-nothing, Took-both};
 ghost use Rattle.writeable_core.specs.Sink.{TookPrefix, HasCause, Rose};
 
@@ -26,7 +27,7 @@ pub struct Stepper<'a> {
 }
 
 impl<'a> Model for Stepper<'a> {
-    ghost use Rattle.lazy_dfa.specs.Stepping.{Progress};
+    ghost use Rattle.lazy_dfa.specs.Progress.{Progress};
     ghost use Rattle.lazy_dfa.specs.States.{HasTable, IsAt, machine};
 
     ghost Value = { Progress };
