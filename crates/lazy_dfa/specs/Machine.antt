@@ -1,4 +1,5 @@
--- How the crate works: what a contract sees of a condition, and which expressions it is for. It is the position
+-- How the crate works: what a contract sees of a condition, and which expressions it is for. It is
+-- the position
 -- automaton, without the state table beside it.
 use Rattle.std.specs.Prelude.{◌≡◌, ℕ, List, slice_index}
 use Rattle.lazy_dfa.specs.declared.automaton.Automaton.{Automaton}
@@ -17,7 +18,14 @@ pub record Machine : Type 0 where
   pub whole : Part
 
 abbrev pub machine_of : Automaton → Part → Machine
-machine_of a part = record { ranges = a.ranges.items; negated = a.negated; follow = a.follow; size = a.size; whole = part }
+machine_of a part =
+    record {
+      ranges = a.ranges.items;
+      negated = a.negated;
+      follow = a.follow;
+      size = a.size;
+      whole = part;
+    }
 
 -- the automaton is that of the expression
 pub record IsFor (machine : Machine) (e : Expression) : Type 0 where

@@ -1,8 +1,13 @@
--- Reading a condition from left to right, as functions. The grammar decides: what is read is the longest `alt`
--- (proved in proofs/Grammar.antt and proofs/Longest.antt). Private contracts cite these functions, and no public one.
-use Rattle.std.specs.Prelude.{◌≡◌, ℕ, zero, suc, ◌+◌, ◌*◌, ◌≤◌, Bool, true, false, nat_le, ◌==◌, if◌then◌else◌, List, [], ◌∷◌, length, Option, Some, None, Result, Ok, Err}
+-- Reading a condition from left to right, as functions. The grammar decides: what is read is the
+-- longest `alt`
+-- (proved in proofs/Grammar.antt and proofs/Longest.antt). Private contracts cite these functions,
+-- and no public one.
+use Rattle.std.specs.Prelude.{◌≡◌, ℕ, zero, suc, ◌+◌, ◌*◌, ◌≤◌, Bool, true, false, nat_le, ◌==◌}
+use Rattle.std.specs.Prelude.{if◌then◌else◌, List, [], ◌∷◌, length, Option, Some, None, Result, Ok}
+use Rattle.std.specs.Prelude.{Err}
 use Rattle.std.specs.Option.{option_map}
-use Rattle.lazy_dfa.specs.Expression.{CharacterSet, only, digit, any, Expression, Nothing, OneOf, End, Sequence, Choice, Star, Plus, Optional}
+use Rattle.lazy_dfa.specs.Expression.{CharacterSet, only, digit, any, Expression, Nothing, OneOf}
+use Rattle.lazy_dfa.specs.Expression.{End, Sequence, Choice, Star, Plus, Optional}
 use Rattle.lazy_dfa.specs.Syntax.{is_punctuation, is_literal, is_plain}
 
 -- what stands behind a character, where the text begins with it
@@ -85,7 +90,8 @@ pub record Found : Type 0 where
 abbrev pub found : Expression → List ℕ → Found
 found e t = record { tree = e; rest = t }
 
--- What a reader finds, or how many characters are left where no `alt` goes on. Want of an atom is None.
+-- What a reader finds, or how many characters are left where no `alt` goes on. Want of an atom is
+-- None.
 abbrev pub Reader : Type 0
 Reader = List ℕ → Result Found ℕ
 
@@ -108,7 +114,8 @@ single_at t = single_by t (behind 46 t) (behind 92 t)
 
 abbrev pub class_of : ℕ → Bool → Option Classed → Result (Option Found) ℕ
 class_of left negated None = Err left
-class_of left negated (Some x) = Ok (Some (found (OneOf (record { negated = negated; ranges = x.0 })) x.1))
+class_of left negated (Some x) =
+    Ok (Some (found (OneOf (record { negated = negated; ranges = x.0 })) x.1))
 
 abbrev pub class_by : ℕ → List ℕ → Option (List ℕ) → Result (Option Found) ℕ
 class_by left t (Some u) = class_of left true (items_at (length u) u)
@@ -154,7 +161,8 @@ rep_by inside t None = repeated (atom_at inside t)
 abbrev pub rep_at : Reader → List ℕ → Result (Option Found) ℕ
 rep_at inside t = rep_by inside t (behind 36 t)
 
-abbrev pub joined : (Expression → Expression → Expression) → Expression → Result Found ℕ → Result Found ℕ
+abbrev pub joined : (Expression → Expression → Expression) → Expression → Result Found ℕ
+    → Result Found ℕ
 joined f a (Err l) = Err l
 joined f a (Ok p) = Ok (found (f a p.tree) p.rest)
 

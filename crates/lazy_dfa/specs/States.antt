@@ -1,6 +1,9 @@
--- How the crate works: the state table, by which it steps where a condition has one. A state is what a text reaches: nothing before its
+-- How the crate works: the state table, by which it steps where a condition has one. A state is
+-- what a text reaches: nothing before its
 -- first character, and then a set of positions.
-use Rattle.std.specs.Prelude.{◌≡◌, ℕ, zero, suc, ◌+◌, ◌≤◌, ◌<◌, List, length, slice_index, slice_index_or, Option, Some, None, Result, Ok, Err, [], ◌∷◌, ◌++◌, ◌⊎◌}
+use Rattle.std.specs.Prelude.{◌≡◌, ℕ, zero, suc, ◌+◌, ◌≤◌, ◌<◌, List, length, slice_index}
+use Rattle.std.specs.Prelude.{slice_index_or, Option, Some, None, Result, Ok, Err, [], ◌∷◌, ◌++◌}
+use Rattle.std.specs.Prelude.{◌⊎◌}
 use Rattle.std.specs.Char.{IsScalar}
 use Rattle.std.specs.List.{All, Contains}
 use Rattle.std.specs.List.Sorted.{IsNonDecreasing}
@@ -84,27 +87,34 @@ pub record IsAdded (old : List ℕ) (set : ℕ) (new : List ℕ) : Type 0 where
 
 -- the set has the number, or none where it is the 256th
 abbrev pub Numbers : List ℕ → ℕ → Result (Option ℕ) AllocError → List ℕ → Type 0
-Numbers old set (Ok (Some n)) new = (n < length new) × (slice_index new n ≡ set) × ((new ≡ old) ⊎ IsAdded old set new)
+Numbers old set (Ok (Some n)) new = (n < length new) × (slice_index new n ≡ set)
+    × ((new ≡ old) ⊎ IsAdded old set new)
 Numbers old set (Ok None) new = (new ≡ old) × (length old ≡ 255) × IsNew old set
 Numbers old set (Err e) new = Unit {0}
 
 -- a row tells by class which of the sets is next; the first k classes were done
-pub record IsRow (m : Machine) (firsts sets : List ℕ) (from : Option ℕ) (k : ℕ) (row : List ℕ) : Type 0 where
+pub record IsRow (m : Machine) (firsts sets : List ℕ) (from : Option ℕ) (k : ℕ) (row : List ℕ) :
+    Type 0 where
   pub full : length row ≡ k
   pub known : (i : ℕ) → i < k → slice_index row i < length sets
-  pub steps : (i : ℕ) → i < k → IsStep m from (slice_index firsts i) (Some (slice_index sets (slice_index row i)))
+  pub steps : (i : ℕ) → i < k
+      → IsStep m from (slice_index firsts i) (Some (slice_index sets (slice_index row i)))
 
 -- the first n states have their rows
 abbrev pub AreRows : Machine → List ℕ → List ℕ → List (Vec ℕ Global) → Type 0
-AreRows m firsts sets rows = (n : ℕ) (d : Vec ℕ Global) → n < length rows → IsRow m firsts sets (state sets n) (length firsts) (slice_index_or rows n d).items
+AreRows m firsts sets rows = (n : ℕ) (d : Vec ℕ Global) → n < length rows
+    → IsRow m firsts sets (state sets n) (length firsts) (slice_index_or rows n d).items
 
 -- the condition has more states than a table
 abbrev pub IsTooLarge : Machine → Type 0
 IsTooLarge m = (c : Expression) → IsFor m c → HasManyStates c
 
 -- the row of a state was made, and what it leads to was found
-abbrev pub MakesRow : Machine → List ℕ → Option ℕ → List ℕ → Result (Option (Vec ℕ Global)) AllocError → List ℕ → Type 0
-MakesRow m firsts from old (Ok (Some row)) new = AreFound m new × (length new ≤ 255) × IsLonger old new × IsRow m firsts new from (length firsts) row.items
+abbrev pub MakesRow : Machine → List ℕ → Option ℕ → List ℕ
+    → Result (Option (Vec ℕ Global)) AllocError → List ℕ → Type 0
+MakesRow m firsts from old (Ok (Some row)) new =
+    AreFound m new × (length new ≤ 255) × IsLonger old new
+    × IsRow m firsts new from (length firsts) row.items
 MakesRow m firsts from old (Ok None) new = IsTooLarge m
 MakesRow m firsts from old (Err e) new = Unit {0}
 

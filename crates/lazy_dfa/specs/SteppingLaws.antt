@@ -1,6 +1,7 @@
 -- Texts that a stepper took, one after another.
 use Rattle.std.specs.Prelude.{ℕ, List, [], ◌++◌, length}
-use Rattle.std.proofs.Common.{refl, sym, ap, subst, ◌∙◌, append-nil, append_assoc, arith, length-append}
+use Rattle.std.proofs.Common.{refl, sym, ap, subst, ◌∙◌, append-nil, append_assoc, arith}
+use Rattle.std.proofs.Common.{length-append}
 use Rattle.lazy_dfa.specs.Expression.{Expression}
 use Rattle.lazy_dfa.specs.Machine.{Machine, IsFor}
 use Rattle.lazy_dfa.specs.Stepping.{HasRead, Took}
@@ -31,5 +32,6 @@ read_nothing c m = record {
 }
 
 -- what a stepper has read, from its beginning on
-pub read_from_begin : (c : Expression) (m : Machine) (u : List ℕ) (s : Progress) → IsFor m c → Took (begun m) u s → HasRead c u s
+pub read_from_begin : (c : Expression) (m : Machine) (u : List ℕ) (s : Progress) → IsFor m c
+    → Took (begun m) u s → HasRead c u s
 read_from_begin c m u s f took = took.read c [] f (read_nothing c m)

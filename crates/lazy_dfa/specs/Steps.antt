@@ -12,7 +12,8 @@ next_has m (Some set) q = any_below m.size (λ p. has set p && has (slice_index 
 -- what is reached with the character d more
 abbrev pub IsStep : Machine → Option ℕ → ℕ → Option ℕ → Type 0
 IsStep m r d None = ⊥
-IsStep m r d (Some set) = (q : ℕ) → has set q ≡ (next_has m r q && atom_reads m.ranges m.negated q d)
+IsStep m r d (Some set) =
+    (q : ℕ) → has set q ≡ (next_has m r q && atom_reads m.ranges m.negated q d)
 
 abbrev pub IsDecidedAt : Machine → Option ℕ → Type 0
 IsDecidedAt m None = m.whole.empty ≡ true

@@ -75,8 +75,8 @@ impl Condition {
         Stepper::new(&self.matcher)
     }
 
-    /// Makes a table of the states that texts reach, by which stepping is a look-up. False where
-    /// they are more than 256: then stepping goes on without one. No answer of the condition changes.
+    /// Makes a table of the states that texts reach, by which a step is a look-up. False where they
+    /// are more than 256: then stepping goes on without one. No answer of the condition changes.
     pub fn determinise(&mut self, alloc: Global) -> Result<bool, AllocError>
         ensures kept { self.new ≡ self.old }
         ensures many { IfOk result (λ used. used ≡ false →

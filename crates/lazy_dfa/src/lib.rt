@@ -8,8 +8,9 @@
 //! ```
 //!
 //! A condition holds on a text where some prefix of the text matches. [`Condition::new`] reads a
-//! pattern, or tells by [`ConditionError`] where it breaks off; [`Condition::matches`] writes a value
-//! into a [`Stepper`], a sink that stops the writer once the answer is fixed.
+//! pattern, or tells by [`ConditionError`] where it breaks off; [`Condition::matches`] writes a
+//! value into a [`Stepper`], a sink that stops the writer once the answer is fixed.
+//! [`Condition::determinise`] makes stepping a look-up in a table, and changes no answer.
 //!
 //! - `condition`, `error`: the condition that a pattern is, and why a pattern is none.
 //! - `stepper`: the sink that steps through a text.

@@ -33,8 +33,11 @@ impl<'a> Model for Stepper<'a> {
     ghost Value = { Progress };
 
     ghost view = { λ s.
-        record { machine = machine s.matcher.now; reached = s.place.reached;
-            refusals = s.refusals } };
+        record {
+          machine = machine s.matcher.now;
+          reached = s.place.reached;
+          refusals = s.refusals;
+        } };
 
     ghost invariant = { λ s.
         HasTable (machine s.matcher.now) s.matcher.now.table

@@ -5,8 +5,8 @@ ghost use Rattle.std.specs.Prelude.{◌≡◌, ◌≤◌, ◌<◌, ℕ, IfOk, On
 ghost use Rattle.std.specs.Char.{IsScalar};
 ghost use Rattle.std.specs.List.{All, Contains};
 ghost use Rattle.std.specs.List.Sorted.{IsNonDecreasing};
-ghost use Rattle.lazy_dfa.specs.States.{AreFound, IsClasses, IsEdged, IsInClass, IsNext, IsReachable};
-ghost use Rattle.lazy_dfa.specs.States.{Keeps, MakesRow, MakesTable, Numbers, machine, state};
+ghost use Rattle.lazy_dfa.specs.States.{AreFound, IsClasses, IsEdged, IsInClass, IsNext, Keeps};
+ghost use Rattle.lazy_dfa.specs.States.{IsReachable, MakesRow, MakesTable, Numbers, machine, state};
 
 use crate::automaton::{Automaton, Range};
 use crate::matcher::Matcher;
