@@ -51,7 +51,8 @@ last_within end (Sequence a b) n p h =
     as_sequence a b n p (elim
     (or_cases (last end b (n + size a) p) (empty end b && last end a n p) h) [
       | inl l ↦ in_right a b n p (last_within end b (n + size a) p l)
-      | inr r ↦ in_left a b n p (last_within end a n p (and_parts (empty end b) (last end a n p) r).1)
+      | inr r ↦
+          in_left a b n p (last_within end a n p (and_parts (empty end b) (last end a n p) r).1)
     ])
 last_within end (Choice a b) n p h =
     elim (or_cases (last end a n p) (last end b (n + size a) p) h) [

@@ -230,7 +230,8 @@ first_reached s (Sequence a b) n i p h r =
             i,
             empty_reads s false None a i (λ e. absurd cc) both.0,
             first_reached s b (n + size a) i p both.1
-                (by_right s a b n p i (first_within b (n + size a) p both.1) (of_choice s a b n p i r)),
+                (by_right s a b n p i (first_within b (n + size a) p both.1)
+                (of_choice s a b n p i r)),
           )
     ]
 first_reached s (Choice a b) n i p h r = elim (or_cases (first a n p) (first b (n + size a) p) h) [
@@ -480,7 +481,8 @@ follow_reached s (Sequence a b) n i k p q (inr h) f r =
               h.0,
               h.1,
               follow_reached s b (n + size a) h.0 k p q h.2 y
-                  (by_right s a b n q k (follow_within b (n + size a) p q y).1 (of_choice s a b n q k r)),
+                  (by_right s a b n q k (follow_within b (n + size a) p q y).1
+                  (of_choice s a b n q k r)),
             )
       ]
       | inr y ↦ let both = and_parts (last false a n p) (first b (n + size a) q) y in

@@ -1,7 +1,7 @@
 -- The state table: classes of characters, rows, and the states that were found.
 use Rattle.std.proofs.Common.{◌≡◌, ℕ, zero, suc, ◌+◌, ◌-◌, ◌≤◌, ◌<◌, Bool, true, false, List, []}
-use Rattle.std.proofs.Common.{◌∷◌, ◌++◌, length, get_or, slice_index, Option, Some, None, Result}
-use Rattle.std.proofs.Common.{Ok, Err, ◌⊎◌, inl, inr, refl, sym, ap, subst, ◌∙◌, ◌↔◌, arith}
+use Rattle.std.proofs.Common.{◌∷◌, ◌++◌, length, get_or, slice_index, Option, Some, None}
+use Rattle.std.proofs.Common.{Ok, ◌⊎◌, inl, inr, refl, sym, ap, subst, ◌∙◌, arith}
 use Rattle.std.proofs.Common.{length-append}
 use Rattle.std.specs.Prelude.{nat_le, ◌&&◌, ◌||◌, ◌==◌}
 use Rattle.std.specs.Char.{IsScalar}
@@ -15,7 +15,7 @@ use Rattle.std.proofs.lemmas.Map.Keys.{IsStrictlyIncreasing-dedup, sorted_from_s
 use Rattle.std.proofs.lemmas.Map.Keys.{non_decreasing_from_sorted}
 use Rattle.std.specs.declared.alloc.Global.{Global}
 use Rattle.std.specs.declared.vec.Vec.{Vec}
-use Rattle.std.proofs.lemmas.Bool.{cases_lt, cases_eq, le-leb, lt-leb, eq-eqb, true≢false}
+use Rattle.std.proofs.lemmas.Bool.{cases_lt, le-leb, lt-leb, eq-eqb, true≢false}
 use Rattle.std.proofs.lemmas.Grind.{get_or_default_zero}
 use Rattle.std.proofs.lemmas.List.{get_or_append_left, get_or_default}
 use Rattle.std.proofs.lemmas.List.Elements.{All-nil, All-head, All-tail, All-push}
@@ -25,7 +25,6 @@ use Rattle.lazy_dfa.specs.declared.automaton.Range.{Range}
 use Rattle.lazy_dfa.specs.declared.matcher.Place.{Place}
 use Rattle.lazy_dfa.specs.declared.table.Table.{Table}
 use Rattle.lazy_dfa.specs.Expression.{Expression, in_range, negated_if}
-use Rattle.lazy_dfa.specs.Meaning.{after}
 use Rattle.lazy_dfa.specs.Compiled.{range_reads, atom_reads}
 use Rattle.lazy_dfa.specs.Machine.{Machine, IsFor}
 use Rattle.lazy_dfa.specs.Refusals.{HasManyStates}
@@ -34,7 +33,7 @@ use Rattle.lazy_dfa.specs.Steps.{next_has, IsStep}
 use Rattle.lazy_dfa.specs.Progress.{IsReached}
 use Rattle.lazy_dfa.specs.States.{MakesRow, Keeps, Numbers, IsAtRow, IsNext, ContainsNext, IsEdged}
 use Rattle.lazy_dfa.specs.States.{IsClasses, IsInClass, state, IsReachable, AreFound, IsLonger}
-use Rattle.lazy_dfa.specs.States.{IsNew, IsAdded, IsRow, AreRows, IsTable, IsTooLarge}
+use Rattle.lazy_dfa.specs.States.{IsNew, IsRow, AreRows, IsTable, IsTooLarge}
 use Rattle.lazy_dfa.proofs.Sets.{bit_cases}
 use Rattle.lazy_dfa.proofs.Advancing.{step_reached}
 

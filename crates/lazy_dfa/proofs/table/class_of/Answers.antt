@@ -1,4 +1,3 @@
-use Rattle.std.proofs.Common.{◌-◌}
 use Rattle.std.proofs.lemmas.List.Sorted.{searched}
 use Rattle.lazy_dfa.proofs.States.{class_before}
 use Rattle.lazy_dfa.proofs.table.class_of.Goals as goal

@@ -1,6 +1,5 @@
 use Rattle.std.proofs.lemmas.List.Filters.{dedup_is}
 use Rattle.std.specs.Prelude.{◌==◌}
-use Rattle.std.proofs.Common.{subst, List, ℕ}
 use Rattle.lazy_dfa.proofs.States.{classes_from}
 use Rattle.lazy_dfa.proofs.automaton.Automaton.classes.Goals as goal
 
