@@ -22,12 +22,14 @@ use Rattle.lazy_dfa.proofs.Texts.{after_within}
 
 -- ---- lists from their end
 
+-- a text as its front and its last character
 pub snoc_of : (u : List ℕ) → 0 < length u → (v : List ℕ) × (d : ℕ) × (u ≡ v ++ d ∷ [])
 snoc_of [] lt = absurd (omega arith)
 snoc_of (c ∷ []) lt = ([], c, refl)
 snoc_of (c ∷ (d ∷ u)) lt = let x = snoc_of (d ∷ u) (omega arith) in
     (c ∷ x.0, x.1, ap (λ l. c ∷ l) x.2)
 
+-- equal texts have equal fronts
 snoc_front : (x y : List ℕ) (a b : ℕ) → x ++ a ∷ [] ≡ y ++ b ∷ [] → x ≡ y
 snoc_front [] [] a b e = refl
 snoc_front [] (d ∷ y) a b e =

@@ -9,10 +9,12 @@ use Rattle.lazy_dfa.specs.Meaning.{Chain, done, step, ReadsAt, Reading, Reaches}
 
 -- ---- chains
 
+-- steps that go up make chains that do
 pub chain_le : {R : ℕ → ℕ → Type 0} (up : (i j : ℕ) → R i j → i ≤ j) (i j : ℕ) → Chain R i j → i ≤ j
 chain_le up i j done = omega arith
 chain_le up i j (step {k = k} r c) = let a = up i k r in let b = chain_le up k j c in omega arith
 
+-- a chain whose steps up to n are steps of another kind
 pub chain_mapped : {R S : ℕ → ℕ → Type 0} (n : ℕ) (up : (i j : ℕ) → R i j → i ≤ j) (f : (i j : ℕ)
     → j ≤ n → R i j → S i j)
     (i j : ℕ) → j ≤ n → Chain R i j → Chain S i j
@@ -21,17 +23,20 @@ chain_mapped n up f i j le (step {k = k} r c) =
     let below : k ≤ n = let b = chain_le up k j c in omega arith in
     step (f i k below r) (chain_mapped n up f k j le c)
 
+-- a chain whose steps are all of another kind
 pub chain_every : {R S : ℕ → ℕ → Type 0} (f : (i j : ℕ) → R i j → S i j) (i j : ℕ) → Chain R i j
     → Chain S i j
 chain_every f i j done = done
 chain_every f i j (step {k = k} r c) = step (f i k r) (chain_every f k j c)
 
+-- one step more at the end of a chain
 pub chain_end : {R : ℕ → ℕ → Type 0} (i k j : ℕ) → Chain R i k → R k j → Chain R i j
 chain_end i k j done r = step r done
 chain_end i k j (step {k = m} q c) r = step q (chain_end m k j c r)
 
 -- ---- reading goes forward
 
+-- reading goes up
 pub Reading_le : (s : List ℕ) (end : Option ℕ) (e : Expression) (i j : ℕ) → Reading s end e i j
     → i ≤ j
 Reading_le s end Nothing i j h = omega (arith, h)
@@ -54,11 +59,13 @@ pub record IsReach (s : List ℕ) (e : Expression) (n i j p : ℕ) : Type 0 wher
   pub low : n ≤ p
   pub high : p < n + size e
 
+-- what is reached in the first part
 reach_left : (s : List ℕ) (a b : Expression) (n i j p : ℕ) → IsReach s a n i j p
     → IsReach s (Choice a b) n i j p
 reach_left s a b n i j p r =
     record { some = r.some; inside = r.inside; low = r.low; high = omega (arith, r.high) }
 
+-- what is reached in the second part
 reach_right : (s : List ℕ) (a b : Expression) (n i j p : ℕ) → IsReach s b (n + size a) i j p
     → IsReach s (Choice a b) n i j p
 reach_right s a b n i j p r =
@@ -69,11 +76,13 @@ reach_right s a b n i j p r =
       high = omega (arith, r.high);
     }
 
+-- what is reached from a later place on
 reach_later : (s : List ℕ) (a : Expression) (n i k j p : ℕ) → i ≤ k → IsReach s a n k j p
     → IsReach s a n i j p
 reach_later s a n i k j p le r =
     record { some = omega (arith, r.some); inside = r.inside; low = r.low; high = r.high }
 
+-- what is reached lies within the text and among the atoms
 pub Reaches_is : (s : List ℕ) (e : Expression) (n i j p : ℕ) → Reaches s e n i j p
     → IsReach s e n i j p
 Reaches_is s Nothing n i j p h = absurd h
@@ -118,11 +127,13 @@ Reaches_is s (Optional a) n i j p h =
 pub record Agree (s t : List ℕ) (n : ℕ) : Type 0 where
   pub same : (k : ℕ) → k < n → slice_get s k ≡ slice_get t k
 
+-- a set reads the same in texts that agree
 pub ReadsAt_agree : (s t : List ℕ) (n : ℕ) → Agree s t n → (set : CharacterSet) (i : ℕ) → i < n
     → ReadsAt s set i → ReadsAt t set i
 ReadsAt_agree s t n agree set i lt r =
     record { character = r.character; there = sym (agree.same i lt) ∙ r.there; inside = r.inside }
 
+-- an expression reads the same in texts that agree
 pub Reading_agree : (s t : List ℕ) (n : ℕ) → Agree s t n → (e : Expression) (i j : ℕ) → j ≤ n
     → Reading s None e i j → Reading t None e i j
 Reading_agree s t n agree Nothing i j le h = h
@@ -146,6 +157,7 @@ Reading_agree s t n agree (Plus a) i j le h =
 Reading_agree s t n agree (Optional a) i j le (inl h) = inl h
 Reading_agree s t n agree (Optional a) i j le (inr h) = inr (Reading_agree s t n agree a i j le h)
 
+-- an expression reaches the same in texts that agree
 pub Reaches_agree : (s t : List ℕ) (m : ℕ) → Agree s t m → (e : Expression) (n i j p : ℕ) → j ≤ m
     → Reaches s e n i j p → Reaches t e n i j p
 Reaches_agree s t m agree Nothing n i j p le h = h

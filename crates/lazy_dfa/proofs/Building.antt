@@ -18,39 +18,49 @@ use Rattle.lazy_dfa.proofs.Sets.{has-none, has-only}
 
 -- ---- places out of an expression
 
+-- an atom of no place has none behind it
 not_follow : (e : Expression) (n p q : ℕ) → (Within e n p → ⊥) → follow e n p q ≡ false
 not_follow e n p q out = false_from_ne_true (follow e n p q) (λ h. out (follow_within e n p q h).0)
 
+-- an atom of no place reads nothing
 not_reads : (e : Expression) (n p c : ℕ) → (Within e n p → ⊥) → reads e n p c ≡ false
 not_reads e n p c out = false_from_ne_true (reads e n p c) (λ h. out (reads_within e n p c h))
 
+-- an atom of no place is no last one
 not_last : (end : Bool) (e : Expression) (n p : ℕ) → (Within e n p → ⊥) → last end e n p ≡ false
 not_last end e n p out = false_from_ne_true (last end e n p) (λ h. out (last_within end e n p h))
 
+-- an atom of no place is no first one
 not_first : (e : Expression) (n p : ℕ) → (Within e n p → ⊥) → first e n p ≡ false
 not_first e n p out = false_from_ne_true (first e n p) (λ h. out (first_within e n p h))
 
+-- a place below the first one
 below : (e : Expression) (n p : ℕ) → p < n → Within e n p → ⊥
 below e n p lt w = omega (arith, w.low)
 
+-- a place above the last one
 above : (e : Expression) (n p : ℕ) → n + size e ≤ p → Within e n p → ⊥
 above e n p le w = omega (arith, w.high)
 
+-- or with false
 or-false : (b : Bool) → (b || false) ≡ b
 or-false true = refl
 or-false false = refl
 
+-- and with false
 and-false : (b : Bool) → (b && false) ≡ false
 and-false true = refl
 and-false false = refl
 
 -- ---- no atom
 
+-- empty sets have nothing
 pub zeros_have : (n p q : ℕ) → has (slice_index (replicate n 0) p) q ≡ false
 zeros_have zero p q = has-none q
 zeros_have (suc n) zero q = has-none q
 zeros_have (suc n) (suc p) q = zeros_have n p q
 
+-- an expression without atoms adds nothing
 pub adds_none : (old : Automaton) (e : Expression) → size e ≡ 0 → IsFresh old
     → ((p q : ℕ) → follow e old.size p q ≡ false) → ((p c : ℕ) → reads e old.size p c ≡ false)
     → Adds old e old
@@ -187,6 +197,7 @@ module _ (before old new : Automaton) (e f : Expression) (set_last set_first : �
     fresh = linked_fresh old new set_last set_first l inside added.fresh;
   }
 
+-- two parts and the link between them add their sequence
 pub adds_sequence : (old mid before new : Automaton) (a b : Expression) (pa pb : Part)
     → Adds old a mid → Adds mid b before → Sums pa a old.size → Sums pb b mid.size
     → Linked before pa.last pb.first new → Adds old (Sequence a b) new
@@ -221,6 +232,7 @@ module _ (old before new : Automaton) (a : Expression) (part : Part) (x : Adds o
       adds_linked old before new a (Plus a) part.last part.first x l refl last_is repeats
       (λ p c. refl)
 
+-- a part adds what it adds as an optional one
 pub adds_optional : (old new : Automaton) (a : Expression) → Adds old a new
     → Adds old (Optional a) new
 adds_optional old new a x = record {
@@ -232,6 +244,7 @@ adds_optional old new a x = record {
   fresh = x.fresh;
 }
 
+-- a part begins and ends as its repetition does
 pub sums_plus : (part : Part) (a : Expression) (n : ℕ) → Sums part a n → Sums part (Plus a) n
 sums_plus part a n s = record {
   empties = s.empties;
@@ -243,6 +256,7 @@ sums_plus part a n s = record {
 
 -- ---- an atom
 
+-- the ranges of one atom are read at its place alone
 any_of : (n p c : ℕ) (rs : List (ℕ × ℕ))
     → list_any (range_reads p c) (ranges_of (2 ^ n) rs) ≡ ((p == n) && list_any (in_range c) rs)
 any_of n p c [] = sym (and-false (p == n))

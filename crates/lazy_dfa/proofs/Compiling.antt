@@ -20,6 +20,7 @@ use Rattle.lazy_dfa.specs.Refusals.{Anchored, most_characters, condition, IsRefu
 use Rattle.lazy_dfa.proofs.Longest.{is_alt, longest, no_alt_err, no_alt_rest}
 use Rattle.lazy_dfa.proofs.Repeating.{behind_is}
 
+-- all was read: the pattern is an `alt`
 pub compiled : (t : List ℕ) (old new : Automaton) (p : Parsed) → old.size ≡ 0
     → ReadsRun Alternatives t old new (Ok p) → length p.rest.now ≡ 0
     → (e : Expression) × alt t e × IsFor (machine_of new p.part) e
@@ -35,12 +36,14 @@ compiled t old new p none h all = (
   },
 )
 
+-- some of it is left: the pattern is no `alt`
 pub unread_rest : (t : List ℕ) (old new : Automaton) (p : Parsed)
     → ReadsRun Alternatives t old new (Ok p) → (length p.rest.now ≡ 0 → ⊥)
     → IsNoAlt t × LongestAlt t (length t - length p.rest.now)
 unread_rest t old new p h more =
     (no_alt_rest t (found h.0 p.rest.now) h.1 more, longest t (Ok (found h.0 p.rest.now)) h.1)
 
+-- it broke off: the pattern is no `alt`
 pub unread_left : (t : List ℕ) (l : ℕ) → Reads Alternatives t (Err l) → IsNoAlt t
     × LongestAlt t (length t - l)
 unread_left t l h = (no_alt_err t l h, longest t (Err l) h)
@@ -53,32 +56,38 @@ pub record Opened (pattern text : List ℕ) : Type 0 where
   pub anchored : Anchored pattern rest
   pub front : text ≡ take 65 rest
 
+-- equal lists, part by part
 cons_is : (c d : ℕ) (x y : List ℕ) → c ∷ x ≡ d ∷ y → (c ≡ d) × (x ≡ y)
 cons_is c d x y e = (cc, cc)
 
+-- what was copied begins with `^`
 pub opened : (pattern text : List ℕ) → Some text ≡ behind 94 (take 66 pattern) → Opened pattern text
 opened [] text h = absurd cc
 opened (c ∷ rest) text h =
     let e = cons_is c 94 (take 65 rest) text (behind_is 94 (c ∷ take 65 rest) text h) in
     record { rest = rest; anchored = ap (λ d. d ∷ rest) e.0; front = sym e.1 }
 
+-- more than 64 characters stand behind `^`
 pub too_long : (pattern text : List ℕ) → Opened pattern text → 64 < length text → (x : List ℕ)
     × Anchored pattern x × (most_characters < length x)
 too_long pattern text o lt =
     (o.rest, o.anchored, omega (arith, ap length o.front, length-take 65 o.rest))
 
+-- all of a list
 pub take_all : (n : ℕ) (x : List ℕ) → length x ≤ n → take n x ≡ x
 take_all zero [] le = refl
 take_all (suc n) [] le = refl
 take_all zero (c ∷ x) le = absurd (omega arith)
 take_all (suc n) (c ∷ x) le = ap (λ l. c ∷ l) (take_all n x (omega arith))
 
+-- the copy is all of a pattern that is short enough
 pub all_opened : (pattern text : List ℕ) → Opened pattern text → length text ≤ 64
     → Anchored pattern text
 all_opened pattern text o le =
     let short : length o.rest ≤ 65 = omega (arith, ap length o.front, length-take 65 o.rest) in
     o.anchored ∙ ap (λ x. 94 ∷ x) (sym (o.front ∙ take_all 65 o.rest short))
 
+-- the pattern doesn't begin with `^`
 pub not_anchored : (pattern : List ℕ) → None ≡ behind 94 (take 66 pattern) → (x : List ℕ)
     → Anchored pattern x → ⊥
 not_anchored pattern h x e = no (h ∙ ap (λ p. behind 94 (take 66 p)) e) where

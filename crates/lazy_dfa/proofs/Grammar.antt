@@ -23,22 +23,27 @@ use Rattle.lazy_dfa.proofs.ReadingSteps.{items_last, items_more, alt_parsed, seq
 
 -- ---- characters
 
+-- characters that a test tells apart
 unlike : (c d : ℕ) (test : ℕ → Bool) → test c ≡ true → test d ≡ false → (c == d) ≡ false
 unlike c d test passes fails =
     false_from_ne_true (c == d) (λ e. true≢false (sym passes ∙ ap test (eqb-true c d e) ∙ fails))
 
+-- the text begins with another character
 not_behind : (c d : ℕ) (t : List ℕ) → (c == d) ≡ false → behind d (c ∷ t) ≡ None
 not_behind c d t e = ap (λ b. if b then Some t else None) e
 
+-- the text begins with the character
 is_behind : (d : ℕ) (t : List ℕ) → behind d (d ∷ t) ≡ Some t
 is_behind d t = ap (λ b. if b then Some t else None) (eq-eqb d d refl)
 
 -- ---- classes
 
+-- punctuation is read
 punctuation_exact : (c : ℕ) (t : List ℕ) → is_punctuation c ≡ true
     → punctuation_at (c ∷ t) ≡ Some (c, t)
 punctuation_exact c t e = ap (λ b. if b then Some (c, t) else None) e
 
+-- a character of a class is read
 character_exact : {x : List ℕ} {c : ℕ} (t : List ℕ) → ClassCharacter x c
     → class_character_at (x ++ t) ≡ Some (c, t)
 character_exact t (plain {c = c} h) =
@@ -46,6 +51,7 @@ character_exact t (plain {c = c} h) =
     ∙ ap (λ b. if b then Some (c, t) else None) h
 character_exact t (punct {c = c} h) = punctuation_exact c t h
 
+-- a character of a class is no `\d`
 no_digits : {x : List ℕ} {c : ℕ} (t : List ℕ) → ClassCharacter x c
     → digits_at (behind 92 (x ++ t)) ≡ None
 no_digits t (plain {c = c} h) = ap digits_at (not_behind c 92 t (unlike c 92 is_plain h refl))
@@ -57,6 +63,7 @@ no_sign : {x : List ℕ} {c : ℕ} (d : ℕ) (t : List ℕ) → is_plain d ≡ f
 no_sign d t fails slash (plain {c = c} h) = not_behind c d t (unlike c d is_plain h fails)
 no_sign d t fails slash (punct {c = c} h) = not_behind 92 d (c ∷ t) slash
 
+-- an item is read
 item_exact : {x : List ℕ} {r : ℕ × ℕ} (t : List ℕ) → behind 45 t ≡ None → Item x r
     → item_at (x ++ t) ≡ Some (r, t)
 item_exact t fails (single {x = x} {c = c} h) =
@@ -70,6 +77,7 @@ item_exact t fails (range {x = x} {y = y} {a = a} {b = b} h g le) =
     ∙ ap (λ z. if z then Some ((a, b), t) else None) (le-leb a b le)
 item_exact t fails digits = refl
 
+-- an item doesn't begin with a sign
 item_sign : {x : List ℕ} {r : ℕ × ℕ} (d : ℕ) (t : List ℕ) → is_plain d ≡ false → (92 == d) ≡ false
     → Item x r → behind d (x ++ t) ≡ None
 item_sign d t fails slash (single h) = no_sign d t fails slash h
@@ -77,12 +85,14 @@ item_sign d t fails slash (range {x = x} {y = y} h g le) = ap (behind d) (append
     ∙ no_sign d (45 ∷ (y ++ t)) fails slash h
 item_sign d t fails slash digits = not_behind 92 d (100 ∷ t) slash
 
+-- items don't begin with a sign
 items_sign : {x : List ℕ} {rs : List (ℕ × ℕ)} (d : ℕ) (t : List ℕ) → is_plain d ≡ false
     → (92 == d) ≡ false → Items x rs → behind d (x ++ t) ≡ None
 items_sign d t fails slash (last h) = item_sign d t fails slash h
 items_sign d t fails slash (item {x = x} {y = y} h more) =
     ap (behind d) (append_assoc x y t) ∙ item_sign d (y ++ t) fails slash h
 
+-- items are read
 items_exact : {x : List ℕ} {rs : List (ℕ × ℕ)} (t : List ℕ) → Items x rs → (k : ℕ)
     → length (x ++ 93 ∷ t) ≤ k → items_at k (x ++ 93 ∷ t) ≡ Some (rs, t)
 items_exact t (last {x = x} {r = r} h) k le =
@@ -110,6 +120,7 @@ pub record Leads (t : List ℕ) : Type 0 where
   pub end : behind 36 t ≡ None
   pub some : 0 < length t
 
+-- a text that begins with no sign of a repetition
 leads : (c : ℕ) (t : List ℕ) → (c == 42) ≡ false → (c == 43) ≡ false → (c == 63) ≡ false
     → (c == 36) ≡ false → Leads (c ∷ t)
 leads c t a b d e = record {
@@ -122,6 +133,7 @@ leads c t a b d e = record {
   some = omega arith;
 }
 
+-- an atom begins with no sign of a repetition
 pub atom_leads : {x : List ℕ} {e : Expression} (t : List ℕ) → IsPart Atom x e → Leads (x ++ t)
 atom_leads t (group {x = x} h) = leads 40 ((x ++ 41 ∷ []) ++ t) refl refl refl refl
 atom_leads t dot = leads 46 t refl refl refl refl
@@ -133,6 +145,7 @@ atom_leads t (literal {c = c} h) =
     leads c t (unlike c 42 is_literal h refl) (unlike c 43 is_literal h refl)
     (unlike c 63 is_literal h refl) (unlike c 36 is_literal h refl)
 
+-- a repetition begins with no sign of one
 pub rep_leads : {x : List ℕ} {e : Expression} (t : List ℕ) → IsPart Rep x e → NoSuffix (x ++ t)
     × (0 < length (x ++ t))
 rep_leads t (once h) = let l = atom_leads t h in (l.suffix, l.some)
@@ -149,14 +162,17 @@ pub record Stops (t : List ℕ) : Type 0 where
   pub suffix : NoSuffix t
   pub none : (inside : Reader) → rep_at inside t ≡ Ok None
 
+-- the end of the text stops a sequence
 stops_end : Stops []
 stops_end =
     record { suffix = record { star = refl; plus = refl; optional = refl }; none = λ inside. refl }
 
+-- a `)` stops a sequence
 stops_close : (t : List ℕ) → Stops (41 ∷ t)
 stops_close t =
     record { suffix = record { star = refl; plus = refl; optional = refl }; none = λ inside. refl }
 
+-- a `|` stops a sequence
 pub stops_bar : (t : List ℕ) → Stops (124 ∷ t)
 stops_bar t =
     record { suffix = record { star = refl; plus = refl; optional = refl }; none = λ inside. refl }
@@ -166,16 +182,19 @@ pub data Closed : List ℕ → Type 0 where
   at_end : Closed []
   at_close : {t : List ℕ} → Closed (41 ∷ t)
 
+-- what ends alternatives stops a sequence
 closed_stops : (t : List ℕ) → Closed t → Stops t
 closed_stops t at_end = stops_end
 closed_stops t (at_close {t = u}) = stops_close u
 
+-- what ends alternatives is no `|`
 closed_bar : (t : List ℕ) → Closed t → behind 124 t ≡ None
 closed_bar t at_end = refl
 closed_bar t at_close = refl
 
 -- ---- each part is read as it is
 
+-- what a part is read as, whatever follows
 abbrev pub Exact : Kind → List ℕ → Expression → Type 0
 Exact Alt x e = (t : List ℕ) → Closed t → (k : ℕ) → needed Alternatives (x ++ t) ≤ k
     → parse k Alternatives (x ++ t) ≡ Ok (found e t)
@@ -190,18 +209,22 @@ Exact Atom x e = (t : List ℕ) (k : ℕ) → 2 * length (x ++ t) ≤ k
 longer : (x t : List ℕ) → length (x ++ t) ≡ length x + length t
 longer x t = length-append x t
 
+-- a repetition has characters
 pub rep_some : {x : List ℕ} {e : Expression} → IsPart Rep x e → 0 < length x
 rep_some {x} r = let l = (rep_leads [] r).1 in omega (arith, longer x [], l)
 
+-- no sign of a repetition follows
 suffixed_none : (e : Expression) (t : List ℕ) → NoSuffix t → suffixed (found e t) ≡ found e t
 suffixed_none e t fails = ap (λ o. suffixed_by (found e t) o (behind 43 t) (behind 63 t)) fails.star
     ∙ ap (λ o. suffixed_by (found e t) None o (behind 63 t)) fails.plus
     ∙ ap (λ o. suffixed_by (found e t) None None o) fails.optional
 
+-- a repetition is its atom, with what follows it
 pub rep_of_atom : (inside : Reader) (u : List ℕ) (p : Found) → Leads u
     → atom_at inside u ≡ Ok (Some p) → rep_at inside u ≡ Ok (Some (suffixed p))
 rep_of_atom inside u p l h = ap (rep_by inside u) l.end ∙ ap repeated h
 
+-- a single character is an atom
 single_atom : (inside : Reader) (t : List ℕ) (x : CharacterSet × List ℕ) → behind 40 t ≡ None
     → behind 91 t ≡ None → single_at t ≡ Some x
     → atom_at inside t ≡ Ok (Some (found (OneOf x.0) x.1))
@@ -209,11 +232,13 @@ single_atom inside t x no_group no_class h =
     ap (λ o. atom_by inside t o (behind 91 t)) no_group ∙ ap (atom_by inside t None) no_class
     ∙ ap (λ o. Ok (option_map (λ y. found (OneOf y.0) y.1) o)) h
 
+-- a sequence begins with no sign of a repetition
 seq_suffix : {y : List ℕ} {b : Expression} → IsPart Seq y b → (t : List ℕ) → NoSuffix t
     → NoSuffix (y ++ t)
 seq_suffix nothing t clean = clean
 seq_suffix (sequence {x = u} {y = v} p q) t clean = rw (append_assoc u v t) (rep_leads (v ++ t) p).0
 
+-- each part of the grammar is read as its expression
 pub exact : {kind : Kind} {x : List ℕ} {e : Expression} → IsPart kind x e → Exact kind x e
 exact (one {x = x} {e = e} p) = λ t closed k le.
     (alt_parsed (x ++ t) (Ok (found e t))

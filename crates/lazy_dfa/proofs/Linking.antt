@@ -19,6 +19,7 @@ pub record LinkedBelow (n : ℕ) (old : Automaton) (last first : ℕ) (new : Aut
       (has (slice_index old.follow p) q || (has last p && has first q))
   pub others : (p : ℕ) → n ≤ p → slice_index new.follow p ≡ slice_index old.follow p
 
+-- or with false
 or-false : (b : Bool) → (b || false) ≡ b
 or-false true = refl
 or-false false = refl
@@ -75,6 +76,7 @@ module _ (n : ℕ) (old : Automaton) (last first : ℕ) (now : Automaton)
         → slice_index (slice_set now.follow n set) p ≡ slice_index now.follow p
     there p set other = get_or-set_other now.follow n p set 0 other
 
+-- all places were linked
 pub linked : (old : Automaton) (last first : ℕ) (now : Automaton)
     → LinkedBelow old.size old last first now → Linked old last first now
 linked old last first now h = record {

@@ -33,17 +33,21 @@ use Rattle.lazy_dfa.proofs.Grammar.{at_end, stops_bar}
 abbrev pub Begins : Kind → List ℕ → Expression → List ℕ → Type 0
 Begins kind t e u = (x : List ℕ) × (t ≡ x ++ u) × IsPart kind x e
 
+-- what a test lets pass
 cut_is : {X : Type 0} (b : Bool) (x y : X) → (if b then Some x else None) ≡ Some y → (b ≡ true)
     × (x ≡ y)
 cut_is true x y h = (refl, cc)
 cut_is false x y h = absurd cc
 
+-- equal pairs, part by part
 first_of : {A B : Type 0} (a c : A) (b d : B) → ◌≡◌ {A = A × B} (a, b) (c, d) → (a ≡ c) × (b ≡ d)
 first_of {A} {B} a c b d e = (ap (λ (x : A × B). x.0) e, ap (λ (x : A × B). x.1) e)
 
+-- equal answers, inside
 some_is : {X : Type 0} (x y : X) → Some x ≡ Some y → x ≡ y
 some_is x y e = cc
 
+-- what is read as a character of a class is one
 character_sound : (t : List ℕ) (c : ℕ) (u : List ℕ) → class_character_at t ≡ Some (c, u)
     → (x : List ℕ) × (t ≡ x ++ u) × ClassCharacter x c
 character_sound t c u h = by (behind 92 t) refl h where
@@ -71,6 +75,7 @@ character_sound t c u h = by (behind 92 t) refl h where
   by None e h = of_plain t h
   by (Some v) e h = of_punct v (behind_is 92 t v (sym e)) h
 
+-- what is read as an item is one
 item_sound : (t : List ℕ) (r : ℕ × ℕ) (u : List ℕ) → item_at t ≡ Some (r, u) → (x : List ℕ)
     × (t ≡ x ++ u) × Item x r
 item_sound t r u h = by (behind 92 t) refl h where
@@ -122,6 +127,7 @@ item_sound t r u h = by (behind 92 t) refl h where
       by_digits (behind 100 w) (λ v f. behind_is 92 t w (sym e)
       ∙ ap (λ l. 92 ∷ l) (behind_is 100 w v (sym f))) h
 
+-- what is read as items are some
 items_sound : (k : ℕ) (t : List ℕ) (rs : List (ℕ × ℕ)) (u : List ℕ) → items_at k t ≡ Some (rs, u)
     → (x : List ℕ) × (t ≡ x ++ 93 ∷ u) × Items x rs
 unfolding items_at
@@ -164,6 +170,7 @@ items_sound (suc k) t rs u h = by_item (item_at t) refl (λ v rs u g. items_soun
       let z = item_sound t y.0 y.1 g in
       by_bracket z.0 y.1 y.0 z.1 z.2 (λ rs u. inner y.1 rs u) (behind 93 y.1) refl h
 
+-- what is read as a single character is an atom
 single_sound : (t : List ℕ) (set : CharacterSet) (u : List ℕ) → single_at t ≡ Some (set, u)
     → Begins Atom t (OneOf set) u
 single_sound t set u h = by (behind 46 t) (behind 92 t) refl refl h where
@@ -291,6 +298,7 @@ module _ (inside : Reader) (sound : (u : List ℕ) → IsRun Alt u (inside u)) (
   rep_sound : IsOne Rep t (rep_at inside t)
   rep_sound = by_end (behind 36 t) refl
 
+-- a repetition before a sequence
 seq_joined : (t : List ℕ) (a : Expression) (x u : List ℕ) → t ≡ x ++ u → IsPart Rep x a
     → (r : Result Found ℕ) → IsRun Seq u r → IsRun Seq t (joined Sequence a r)
 seq_joined t a x u e p (Ok q) h =
@@ -303,6 +311,7 @@ seq_joined t a x u e p (Err l) h =
       (x ++ y.0, e ∙ ap (λ l. x ++ l) y.1 ∙ sym (append_assoc x y.0 h.1), sequence p y.2),
     )
 
+-- what is read as a sequence is one
 seq_sound : (more : Reader) → ((u : List ℕ) → IsRun Seq u (more u))
     → (t : List ℕ) (r : Result (Option Found) ℕ) → IsOne Rep t r → IsRun Seq t (seq_by more t r)
 seq_sound more sound t (Err l) h = (Nothing, t, sym h, ([], refl, nothing))
@@ -310,6 +319,7 @@ seq_sound more sound t (Ok None) h = ([], refl, nothing)
 seq_sound more sound t (Ok (Some p)) h =
     seq_joined t p.tree h.0 p.rest h.1 h.2 (more p.rest) (sound p.rest)
 
+-- a sequence before alternatives
 alt_joined : (t : List ℕ) (a : Expression) (x u : List ℕ) → t ≡ x ++ (124 ∷ u) → IsPart Seq x a
     → (r : Result Found ℕ) → IsRun Alt u r → IsRun Alt t (joined Choice a r)
 alt_joined t a x u e p (Ok q) h = (
@@ -329,6 +339,7 @@ alt_joined t a x u e p (Err l) h =
       ),
     )
 
+-- what is read as alternatives are some
 alt_sound : (more : Reader) → ((u : List ℕ) → IsRun Alt u (more u))
     → (t : List ℕ) (r : Result Found ℕ) → IsRun Seq t r → IsRun Alt t (alt_by more r)
 alt_sound more sound t (Err l) h = let y = h.3 in (h.0, h.1, h.2, (y.0, y.1, one y.2))
@@ -339,6 +350,7 @@ alt_sound more sound t (Ok p) h = by (behind 124 p.rest) refl where
       alt_joined t p.tree h.0 u (h.1 ∙ ap (λ l. h.0 ++ l) (behind_is 124 p.rest u (sym e))) h.2
       (more u) (sound u)
 
+-- what is read as a run is one
 pub both_sound : (k : ℕ) → ((t : List ℕ) → IsRun Alt t (parse k Alternatives t))
     × ((t : List ℕ) → IsRun Seq t (parse k Parts t))
 unfolding parse
@@ -358,16 +370,20 @@ abbrev pub left_of : Result Found ℕ → ℕ
 left_of (Ok p) = length p.rest
 left_of (Err l) = l
 
+-- no more is left than there was
 left_le : (kind : Kind) (t : List ℕ) (r : Result Found ℕ) → IsRun kind t r → left_of r ≤ length t
 left_le kind t (Ok p) h = omega (arith, ap length h.1, length-append h.0 p.rest)
 left_le kind t (Err l) h = omega (arith, h.2, ap length h.3.1, length-append h.3.0 h.1)
 
+-- no more is left behind a sequence than there was
 parts_left : (k : ℕ) (t : List ℕ) → left_of (parse k Parts t) ≤ length t
 parts_left k t = left_le Seq t (parse k Parts t) ((both_sound k).1 t)
 
+-- no more is left behind alternatives than there was
 alternatives_left : (k : ℕ) (t : List ℕ) → left_of (parse k Alternatives t) ≤ length t
 alternatives_left k t = left_le Alt t (parse k Alternatives t) ((both_sound k).0 t)
 
+-- no more is left behind the sign of a repetition
 suffixed_left : (p : Found) → length (suffixed p).rest ≤ length p.rest
 suffixed_left p = by (behind 42 p.rest) (behind 43 p.rest) (behind 63 p.rest) refl refl refl where
   by : (a b c : Option (List ℕ)) → behind 42 p.rest ≡ a → behind 43 p.rest ≡ b
@@ -382,6 +398,7 @@ abbrev pub ReadRep : ℕ → List ℕ → List ℕ → Type 0
 ReadRep k u t = (p : Found) × (rep_at (parse k Alternatives) u ≡ Ok (Some p))
     × (length p.rest ≤ length t)
 
+-- reading passes a repetition with which the text begins
 rep_left : {x : List ℕ} {e : Expression} → IsPart Rep x e → (t : List ℕ) (k : ℕ)
     → 2 * length (x ++ t) ≤ k → ReadRep k (x ++ t) t
 rep_left (once {x = x} {e = e} p) t k le = (
@@ -416,16 +433,19 @@ rep_left (optional {x = x} {e = e} p) t k le =
     )
 rep_left end t k le = (found End t, refl, omega arith)
 
+-- as much is left behind two parts as behind the second
 left_joined : (f : Expression → Expression → Expression) (a : Expression) (r : Result Found ℕ)
     → left_of (joined f a r) ≡ left_of r
 left_joined f a (Ok p) = refl
 left_joined f a (Err l) = refl
 
+-- how a sequence is read
 parse-parts : (j : ℕ) (t : List ℕ)
     → parse (suc j) Parts t ≡ seq_by (parse j Parts) t (rep_at (parse j Alternatives) t)
 unfolding parse
 parse-parts j t = refl
 
+-- how alternatives are read
 parse-alternatives : (j : ℕ) (t : List ℕ)
     → parse (suc j) Alternatives t ≡ alt_by (parse j Alternatives) (parse j Parts t)
 unfolding parse
@@ -437,6 +457,7 @@ module _ (x : List ℕ) (a : Expression) (p : IsPart Rep x a) (u : List ℕ) (j 
   after_rep = ap left_of (parse-parts j (x ++ u) ∙ ap (seq_by (parse j Parts) (x ++ u)) read)
       ∙ left_joined Sequence q.tree (parse j Parts q.rest)
 
+-- reading passes a sequence with which the text begins
 seq_left : {x : List ℕ} {e : Expression} → IsPart Seq x e → (t : List ℕ) (k : ℕ)
     → needed Parts (x ++ t) ≤ k → left_of (parse k Parts (x ++ t)) ≤ length t
 seq_left nothing t k le = parts_left k t
@@ -459,6 +480,7 @@ seq_left (sequence {x = x} {a = a} p (sequence {x = v} {y = w} {a = c} {b = d} q
     (omega (arith, le, ap length all, length-append x ((v ++ w) ++ t), rep_some p)) in
     omega (arith, here, rest)
 
+-- alternatives go on behind a sequence
 alt_by_left : (j : ℕ) (r : Result Found ℕ) (n : ℕ) → left_of r ≤ n
     → left_of (alt_by (parse j Alternatives) r) ≤ n
 alt_by_left j (Err l) n le = le
@@ -471,6 +493,7 @@ alt_by_left j (Ok p) n le = by (behind 124 p.rest) refl where
       alternatives_left j u in let same = left_joined Choice p.tree (parse j Alternatives u) in
       omega arith
 
+-- reading passes alternatives with which the text begins
 alt_left : {x : List ℕ} {e : Expression} → IsPart Alt x e → (t : List ℕ) (k : ℕ)
     → needed Alternatives (x ++ t) ≤ k → left_of (parse k Alternatives (x ++ t)) ≤ length t
 alt_left {x} (one p) t zero le = absurd (omega arith)
@@ -493,11 +516,13 @@ alt_left (choice {x = x} {y = y} {a = a} {b = b} p q) t (suc j) le =
 
 -- ---- the whole text
 
+-- the front of a text, by what is left
 front_is : (t x u : List ℕ) → t ≡ x ++ u → take (length t - length u) t ≡ x
 front_is t x u e =
     let n : length t - length u ≡ length x = omega (arith, ap length e, length-append x u) in
     ap (λ m. take m t) n ∙ ap (take (length x)) e ∙ take-append_seam x u
 
+-- where reading breaks off stands the end of the longest `alt`
 pub longest_at : (t : List ℕ) (r : Result Found ℕ) → Reads Alternatives t r
     → (u : List ℕ) (e : Expression) → length u ≡ left_of r → Begins Alt t e u
     → LongestAlt t (length t - left_of r)
@@ -514,6 +539,7 @@ longest_at t r reads u e size b = record {
       omega (arith, left, same, length-drop k t);
 }
 
+-- the longest `alt`, by what is left
 pub longest : (t : List ℕ) (r : Result Found ℕ) → Reads Alternatives t r
     → LongestAlt t (length t - left_of r)
 longest t r reads =
@@ -524,6 +550,7 @@ longest t r reads =
       by (Ok p) reads h = longest_at t (Ok p) reads p.rest p.tree refl h
       by (Err l) reads h = longest_at t (Err l) reads h.1 h.0 h.2 h.3
 
+-- what is read to its end is an `alt`
 pub is_alt : (t : List ℕ) (e : Expression) → Reads Alternatives t (Ok (found e [])) → alt t e
 is_alt t e reads =
     let h : Begins Alt t e [] =
@@ -531,6 +558,7 @@ is_alt t e reads =
     ((both_sound (needed Alternatives t)).0 t) in
     subst (λ (x : List ℕ). IsPart Alt x e) (sym (h.1 ∙ append-nil h.0)) h.2
 
+-- an `alt` is read to its end
 alt_whole : (t : List ℕ) (e : Expression) (r : Result Found ℕ) → Reads Alternatives t r → alt t e
     → r ≡ Ok (found e [])
 alt_whole t e r reads h =
@@ -539,13 +567,16 @@ alt_whole t e r reads h =
     sym (reads.parsed (needed Alternatives t) (omega arith))
     ∙ ap (parse (needed Alternatives t) Alternatives) (sym all) ∙ read
 
+-- what breaks off is no `alt`
 pub no_alt_err : (t : List ℕ) (l : ℕ) → Reads Alternatives t (Err l) → IsNoAlt t
 no_alt_err t l reads = λ e h. let same = alt_whole t e (Err l) reads h in absurd cc
 
+-- what isn't read to its end is no `alt`
 pub no_alt_rest : (t : List ℕ) (p : Found) → Reads Alternatives t (Ok p) → (length p.rest ≡ 0 → ⊥)
     → IsNoAlt t
 no_alt_rest t p reads more = λ e h. more (ap left_of (alt_whole t e (Ok p) reads h))
 
+-- no more is left than there was
 pub left_within : (t : List ℕ) (r : Result Found ℕ) → Reads Alternatives t r → left_of r ≤ length t
 left_within t r reads =
     omega (

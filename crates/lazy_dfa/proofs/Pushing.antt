@@ -19,10 +19,12 @@ use Rattle.lazy_dfa.proofs.Advancing.{step_reached, open_longer}
 
 -- ---- tests
 
+-- a test and its fact
 test_true : (b : Bool) (P : Type 0) → MatchBool b P (P → ⊥) → (b ≡ true) ↔ P
 test_true true P h = (λ e. h, λ p. refl)
 test_true false P h = (λ e. absurd cc, λ p. absurd (h p))
 
+-- the test of a decision, of what was read
 pub decided_test : (s : Progress) (b : Bool)
     → MatchBool b (IsDecidedAt s.machine s.reached) (IsDecidedAt s.machine s.reached → ⊥)
     → (c : Expression) (u : List ℕ) → IsFor s.machine c → HasRead c u s → (b ≡ true) ↔ Decided c u
@@ -32,6 +34,7 @@ decided_test s b test c u f h =
       (λ d. t.1 (at_decided s.machine c f u h.unsettled s.reached h.reached d)),
     )
 
+-- the test of an answer, of what was read
 pub holds_test : (s : Progress) (b : Bool) → (b ≡ true) ↔ HoldsAt s.machine s.reached
     → (c : Expression) (u : List ℕ) → IsFor s.machine c → HasRead c u s → (b ≡ true) ↔ holds c u
 holds_test s b test c u f h = (
@@ -39,6 +42,7 @@ holds_test s b test c u f h = (
   (λ w. test.1 (there_holds s.machine c f u h.unsettled s.reached h.reached w)),
 )
 
+-- the answer where it is decided
 pub decided_answer : (s : Progress) (b : Bool) → (b ≡ true) ↔ HoldsAt s.machine s.reached
     → (c : Expression) (u : List ℕ) → IsFor s.machine c → HasRead c u s → Decided c u → (b ≡ true)
     ↔ early c u
@@ -54,6 +58,7 @@ decided_answer s b test c u f h d =
 
 -- ---- a refused push
 
+-- a refused push takes nothing
 pub refused_took : (s : Progress) (n : ℕ) → s.refusals ≤ n
     → ((c : Expression) (u : List ℕ) → IsFor s.machine c → HasRead c u s → Decided c u)
     → Took s [] (record { machine = s.machine; reached = s.reached; refusals = n })
@@ -73,6 +78,7 @@ refused_took s n le decided = record {
 abbrev pub IsUndecided : Progress → Type 0
 IsUndecided s = (c : Expression) (u : List ℕ) → IsFor s.machine c → HasRead c u s → Decided c u → ⊥
 
+-- a character is taken
 pub advanced : (s : Progress) (d set : ℕ) → IsUndecided s
     → ((q : ℕ) → has set q ≡
     (next_has s.machine s.reached q && atom_reads s.machine.ranges s.machine.negated q d))
@@ -87,6 +93,7 @@ advanced s d set undecided step = record {
   later = omega arith;
 }
 
+-- where it is decided before, the shortest prefix is the empty one
 pub none_in_nothing : (c : Expression) (u : List ℕ) (before now : Progress) (piece : List ℕ)
     → Took before [] now → Decided c u → TookShortest c u piece before now
 none_in_nothing c u before now piece took d = record {
@@ -98,6 +105,7 @@ none_in_nothing c u before now piece took d = record {
   shortest = λ q r e lt h. let n = ap length e in omega (arith, n, length-append q r);
 }
 
+-- the prefixes of one character
 one_character : (d : ℕ) (q r : List ℕ) → q ++ r ≡ d ∷ [] → (q ≡ []) ⊎ ((q ≡ d ∷ []) × (r ≡ []))
 one_character d [] r e = inl refl
 one_character d (x ∷ []) r e = let head : x ≡ d = cc in let tail : r ≡ [] = cc in
@@ -105,6 +113,7 @@ one_character d (x ∷ []) r e = let head : x ≡ d = cc in let tail : r ≡ [] 
 one_character d (x ∷ (y ∷ q)) r e =
     let n = ap length e in absurd (omega (arith, n, length-append q r))
 
+-- what a push of a character answers
 pub character_decides : {E : Type 0} (c : Expression) (u : List ℕ) (d : ℕ) (before now : Progress)
     (r : Result (Unit {0}) E) → (Decided c u → ⊥) → Took before (d ∷ []) now
     → MatchResult r (λ _. Decided c (u ++ d ∷ []) → ⊥) (λ _. Decided c (u ++ d ∷ []))
@@ -138,6 +147,7 @@ pub record Passed (before : Progress) (text : List ℕ) (now : Progress) : Type 
       → NoneDecides c u text
   pub here : IsUndecided now
 
+-- no characters were taken
 pub passed_nothing : (s : Progress) → IsUndecided s → Passed s [] s
 passed_nothing s undecided = record {
   took = Took-nothing s;
@@ -233,9 +243,11 @@ at_turn (z ∷ all) (y ∷ xs) x front lt here =
 
 -- ---- the same of the fields that a stepper is seen by
 
+-- a stepper by its fields
 abbrev pub seen : Machine → Option ℕ → ℕ → Progress
 seen m r k = record { machine = m; reached = r; refusals = k }
 
+-- the same, of the fields
 pub refused_of : (s : Progress) (m : Machine) (r : Option ℕ) (k n : ℕ) → seen m r k ≡ s → k ≤ n
     → ((c : Expression) (u : List ℕ) → IsFor s.machine c → HasRead c u s → Decided c u)
     → Took s [] (seen m r n)
@@ -245,6 +257,7 @@ refused_of s m r k n e le d =
     (subst (λ (x : Progress). (c : Expression) (u : List ℕ) → IsFor x.machine c → HasRead c u x
     → Decided c u) (sym e) d))
 
+-- the same, of the fields
 pub advanced_of : (s : Progress) (m : Machine) (r : Option ℕ) (k d set : ℕ) → seen m r k ≡ s
     → IsUndecided s → ((q : ℕ) → has set q ≡ (next_has m r q && atom_reads m.ranges m.negated q d))
     → Took s (d ∷ []) (seen m (Some set) k)
@@ -252,11 +265,13 @@ advanced_of s m r k d set e undecided step =
     subst (λ (x : Progress). Took x (d ∷ []) (seen m (Some set) k)) e
     (advanced (seen m r k) d set (subst IsUndecided (sym e) undecided) step)
 
+-- the same, of what is reached then
 pub advanced_to : (s : Progress) (m : Machine) (r : Option ℕ) (k d : ℕ) (now : Option ℕ)
     → seen m r k ≡ s → IsUndecided s → IsStep m r d now → Took s (d ∷ []) (seen m now k)
 advanced_to s m r k d None e undecided step = absurd step
 advanced_to s m r k d (Some set) e undecided step = advanced_of s m r k d set e undecided step
 
+-- the stepper by its fields is for the same expressions
 pub for_seen : (s : Progress) (m : Machine) (r : Option ℕ) (k : ℕ) → seen m r k ≡ s
     → (c : Expression) → IsFor s.machine c → IsFor m c
 for_seen s m r k e c f = subst (λ (x : Progress). IsFor x.machine c) (sym e) f

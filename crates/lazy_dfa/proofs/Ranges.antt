@@ -11,18 +11,23 @@ pub record Within (e : Expression) (n p : ℕ) : Type 0 where
   pub low : n ≤ p
   pub high : p < n + size e
 
+-- a place of the first part
 in_left : (a b : Expression) (n p : ℕ) → Within a n p → Within (Choice a b) n p
 in_left a b n p w = record { low = w.low; high = omega (arith, w.high) }
 
+-- a place of the second part
 in_right : (a b : Expression) (n p : ℕ) → Within b (n + size a) p → Within (Choice a b) n p
 in_right a b n p w = record { low = omega (arith, w.low); high = omega (arith, w.high) }
 
+-- the places of two parts are those of their sequence
 as_sequence : (a b : Expression) (n p : ℕ) → Within (Choice a b) n p → Within (Sequence a b) n p
 as_sequence a b n p w = record { low = w.low; high = w.high }
 
+-- the place of an only atom
 at_place : (n p : ℕ) (e : Expression) → size e ≡ 1 → (p == n) ≡ true → Within e n p
 at_place n p e one h = let same = eqb-true p n h in record { low = omega arith; high = omega arith }
 
+-- first atoms have a place
 pub first_within : (e : Expression) (n p : ℕ) → first e n p ≡ true → Within e n p
 first_within Nothing n p h = absurd cc
 first_within (OneOf set) n p h = at_place n p (OneOf set) refl h
@@ -43,6 +48,7 @@ first_within (Plus a) n p h = let w = first_within a n p h in record { low = w.l
 first_within (Optional a) n p h =
     let w = first_within a n p h in record { low = w.low; high = w.high }
 
+-- last atoms have a place
 pub last_within : (end : Bool) (e : Expression) (n p : ℕ) → last end e n p ≡ true → Within e n p
 last_within end Nothing n p h = absurd cc
 last_within end (OneOf set) n p h = at_place n p (OneOf set) refl h
@@ -70,12 +76,15 @@ last_within end (Optional a) n p h =
 abbrev pub Both : Expression → ℕ → ℕ → ℕ → Type 0
 Both e n p q = Within e n p × Within e n q
 
+-- places of the first part
 both_left : (a b : Expression) (n p q : ℕ) → Both a n p q → Both (Choice a b) n p q
 both_left a b n p q w = (in_left a b n p w.0, in_left a b n q w.1)
 
+-- places of the second part
 both_right : (a b : Expression) (n p q : ℕ) → Both b (n + size a) p q → Both (Choice a b) n p q
 both_right a b n p q w = (in_right a b n p w.0, in_right a b n q w.1)
 
+-- places in a repetition
 repeated : (a : Expression) (n p q : ℕ) → (follow a n p q ≡ true → Both a n p q)
     → (follow a n p q || (last false a n p && first a n q)) ≡ true → Both a n p q
 repeated a n p q inside h = elim (or_cases (follow a n p q) (last false a n p && first a n q) h) [
@@ -85,6 +94,7 @@ repeated a n p q inside h = elim (or_cases (follow a n p q) (last false a n p &&
       (last_within false a n p both.0, first_within a n q both.1)
 ]
 
+-- atoms that follow have places
 pub follow_within : (e : Expression) (n p q : ℕ) → follow e n p q ≡ true → Both e n p q
 follow_within Nothing n p q h = absurd cc
 follow_within (OneOf set) n p q h = absurd cc
@@ -116,6 +126,7 @@ follow_within (Optional a) n p q h =
     let w = follow_within a n p q h in
     (record { low = w.0.low; high = w.0.high }, record { low = w.1.low; high = w.1.high })
 
+-- atoms that read have a place
 pub reads_within : (e : Expression) (n p c : ℕ) → reads e n p c ≡ true → Within e n p
 reads_within Nothing n p c h = absurd cc
 reads_within (OneOf set) n p c h =

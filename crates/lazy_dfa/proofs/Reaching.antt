@@ -35,6 +35,7 @@ Reading_any s at (Optional a) i j (inr h) = inr (Reading_any s at a i j h)
 abbrev pub Ends : Bool → Option ℕ → ℕ → Type 0
 Ends end at i = end ≡ true → at ≡ Some i
 
+-- what is empty reads nothing
 pub empty_reads : (s : List ℕ) (end : Bool) (at : Option ℕ) (e : Expression) (i : ℕ) → Ends end at i
     → empty end e ≡ true → Reading s at e i i
 empty_reads s end at Nothing i ends h = refl
@@ -60,6 +61,7 @@ chain_first : {R : ℕ → ℕ → Type 0} (i k j : ℕ) → Chain R i k → R k
 chain_first i k j done r = (j, r, done)
 chain_first i k j (step {k = m} q c) r = (m, q, chain_end m k j c r)
 
+-- where a last atom is reached, all is read
 pub last_reads : (s : List ℕ) (end : Bool) (at : Option ℕ) (e : Expression) (n i j p : ℕ)
     → Ends end at j → Reaches s e n i j p → last end e n p ≡ true → Reading s at e i j
 last_reads s end at Nothing n i j p ends h l = absurd h
@@ -107,6 +109,7 @@ abbrev pub Whole : List ℕ → Bool → Expression → ℕ → ℕ → ℕ → 
 Whole s end e n i j =
     ((i ≡ j) × (empty end e ≡ true)) ⊎ ((p : ℕ) × Reaches s e n i j p × (last end e n p ≡ true))
 
+-- what a chain read reached a last atom, or it read nothing
 chain_whole : (s : List ℕ) (a : Expression) (n : ℕ)
     → ((i j : ℕ) → Reading s None a i j → Whole s false a n i j)
     → (i j : ℕ) → Chain (Reading s None a) i j → (i ≡ j)
@@ -120,6 +123,7 @@ chain_whole s a n whole i j (step {k = k} r c) = elim (chain_whole s a n whole k
   ]
 ]
 
+-- what was read reached a last atom, or nothing
 pub read_whole : (s : List ℕ) (e : Expression) (n i j : ℕ) → Reading s None e i j
     → Whole s false e n i j
 read_whole s Nothing n i j h = inl (h, refl)
@@ -171,6 +175,7 @@ read_whole s (Optional a) n i j (inr h) = elim (read_whole s a n i j h) [
   | inr x ↦ inr (x.0, x.1, x.2)
 ]
 
+-- what reads nothing is empty
 pub read_nothing : (s : List ℕ) (e : Expression) (i : ℕ) → Reading s None e i i
     → empty false e ≡ true
 read_nothing s e i h = elim (read_whole s e 0 i i h) [
@@ -186,6 +191,7 @@ pub record ReadBy (s : List ℕ) (e : Expression) (n p k : ℕ) : Type 0 where
   pub there : slice_get s k ≡ Some character
   pub read : reads e n p character ≡ true
 
+-- an atom of the first part reads
 by_left : (s : List ℕ) (a b : Expression) (n p k : ℕ) → Within a n p → ReadBy s (Choice a b) n p k
     → ReadBy s a n p k
 by_left s a b n p k w r = record {
@@ -198,6 +204,7 @@ by_left s a b n p k w r = record {
   ];
 }
 
+-- an atom of the second part reads
 by_right : (s : List ℕ) (a b : Expression) (n p k : ℕ) → Within b (n + size a) p
     → ReadBy s (Choice a b) n p k → ReadBy s b (n + size a) p k
 by_right s a b n p k w r = record {
@@ -209,10 +216,12 @@ by_right s a b n p k w r = record {
   ];
 }
 
+-- atoms read alike in a sequence
 of_choice : (s : List ℕ) (a b : Expression) (n p k : ℕ) → ReadBy s (Sequence a b) n p k
     → ReadBy s (Choice a b) n p k
 of_choice s a b n p k r = record { character = r.character; there = r.there; read = r.read }
 
+-- a first atom that reads is reached
 pub first_reached : (s : List ℕ) (e : Expression) (n i p : ℕ) → first e n p ≡ true
     → ReadBy s e n p i → Reaches s e n i (i + 1) p
 first_reached s Nothing n i p h r = absurd cc
@@ -255,6 +264,7 @@ first_reached s (Plus a) n i p h r = (
 first_reached s (Optional a) n i p h r =
     first_reached s a n i p h (record { character = r.character; there = r.there; read = r.read })
 
+-- what is reached by one character is a first atom
 pub reached_first : (s : List ℕ) (e : Expression) (n i j p : ℕ) → j ≡ i + 1 → Reaches s e n i j p
     → first e n p ≡ true
 reached_first s Nothing n i j p one h = absurd h
@@ -353,6 +363,7 @@ behind_chain s a n i k q lt f c = elim (chain_whole s a n (λ i j r. read_whole 
   )
 ]
 
+-- what a repetition reaches by one character more follows what it reached
 behind_repeated : (s : List ℕ) (a : Expression) (n i j q k : ℕ) → j ≡ k + 1 → i < k
     → ((m : ℕ) → m < k → Reaches s a n m j q → Behind s a n m k q) → Reaches s (Star a) n i j q
     → (p : ℕ) × Reaches s (Star a) n i k p
@@ -369,6 +380,7 @@ behind_repeated s a n i j q k one lt inside h = elim (cases_lt h.0 k) [
       (subst (λ (m : ℕ). Chain (Reading s None a) i m) here h.1)
 ]
 
+-- what is reached by one character more follows what was reached
 pub reached_behind : (s : List ℕ) (e : Expression) (n i j q k : ℕ) → j ≡ k + 1 → i < k
     → Reaches s e n i j q → Behind s e n i k q
 reached_behind s Nothing n i j q k one lt h = absurd h
@@ -445,6 +457,7 @@ repeated_follow s a n i k p q inside h f r =
           (k, chain_end i h.0 k h.1 part, first_reached s a n k q both.1 r)
     ]
 
+-- what follows and reads is reached
 pub follow_reached : (s : List ℕ) (e : Expression) (n i k p q : ℕ) → Reaches s e n i k p
     → follow e n p q ≡ true → ReadBy s e n q k → Reaches s e n i (k + 1) q
 follow_reached s Nothing n i k p q h f r = absurd h

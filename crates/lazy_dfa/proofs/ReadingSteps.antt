@@ -26,11 +26,13 @@ use Rattle.lazy_dfa.specs.Parsing.{Alternatives, Parts, parse, needed, Reads}
 use Rattle.lazy_dfa.proofs.Building.{adds_choice, adds_sequence, adds_none}
 use Rattle.lazy_dfa.proofs.Repeating.{behind_shorter}
 
+-- equal answers, inside
 some_is : {X : Type 0} (x y : X) → Some x ≡ Some y → x ≡ y
 some_is x y e = cc
 
 -- ---- what is read is not empty
 
+-- what a test lets pass is shorter
 cut_shorter : (b : Bool) (c : ℕ) (t : List ℕ) (x : ℕ × List ℕ)
     → Some x ≡ (if b then Some (c, t) else None) → length x.1 < length (c ∷ t)
 cut_shorter true c t x h =
@@ -38,15 +40,18 @@ cut_shorter true c t x h =
     omega (arith, ap length e)
 cut_shorter false c t x h = absurd cc
 
+-- less is left behind punctuation
 punctuation_shorter : (t : List ℕ) (x : ℕ × List ℕ) → Some x ≡ punctuation_at t
     → length x.1 < length t
 punctuation_shorter [] x h = absurd cc
 punctuation_shorter (c ∷ t) x h = cut_shorter (is_punctuation c) c t x h
 
+-- less is left behind a character
 plain_shorter : (t : List ℕ) (x : ℕ × List ℕ) → Some x ≡ plain_at t → length x.1 < length t
 plain_shorter [] x h = absurd cc
 plain_shorter (c ∷ t) x h = cut_shorter (is_plain c) c t x h
 
+-- less is left behind a character of a class
 pub character_shorter : (t : List ℕ) (x : ℕ × List ℕ) → Some x ≡ class_character_at t
     → length x.1 < length t
 character_shorter t x h = by (behind 92 t) refl h where
@@ -56,6 +61,7 @@ character_shorter t x h = by (behind 92 t) refl h where
   by (Some u) e h = let a = punctuation_shorter u x h in let b = behind_shorter 92 t u (sym e) in
       omega arith
 
+-- a range ends where its last character does
 range_to_shorter : (a : ℕ) (o : Option (ℕ × List ℕ)) (x : Ranged) → Some x ≡ range_to a o
     → (y : ℕ × List ℕ) × (o ≡ Some y) × (x.1 ≡ y.1)
 range_to_shorter a None x h = absurd cc
@@ -64,6 +70,7 @@ range_to_shorter a (Some y) x h = (y, refl, by (nat_le a y.0) h) where
   by true h = let same : x ≡ ((a, y.0), y.1) = cc in ap (λ (z : Ranged). z.1) same
   by false h = absurd cc
 
+-- less is left behind an item
 pub item_shorter : (t : List ℕ) (x : Ranged) → Some x ≡ item_at t → length x.1 < length t
 item_shorter t x h = by (behind 92 t) refl h where
   from_by : (y : ℕ × List ℕ) (o : Option (List ℕ)) → behind 45 y.1 ≡ o → length y.1 < length t
@@ -96,11 +103,13 @@ item_shorter t x h = by (behind 92 t) refl h where
 
 -- ---- the items of a class
 
+-- no item, no items
 pub items_none : (t : List ℕ) → None ≡ item_at t → (k : ℕ) → items_at k t ≡ None
 unfolding items_at
 items_none t h zero = refl
 items_none t h (suc k) = ap (items_from (items_at k)) (sym h)
 
+-- one item alone
 pub items_last : (t : List ℕ) (r : ℕ × ℕ) (u v : List ℕ) → Some (r, u) ≡ item_at t
     → Some v ≡ behind 93 u → (k : ℕ) → length t ≤ k → items_at k t ≡ Some (r ∷ [], v)
 unfolding items_at
@@ -108,6 +117,7 @@ items_last t r u v h e zero le = let lt = item_shorter t (r, u) h in absurd (ome
 items_last t r u v h e (suc k) le =
     ap (items_from (items_at k)) (sym h) ∙ ap (items_by (items_at k u) r) (sym e)
 
+-- one item before others
 pub items_more : (t : List ℕ) (r : ℕ × ℕ) (u : List ℕ) (o : Option Classed)
     → Some (r, u) ≡ item_at t → None ≡ behind 93 u → ((k : ℕ) → length u ≤ k → items_at k u ≡ o)
     → (k : ℕ) → length t ≤ k → items_at k t ≡ with_item r o
@@ -119,6 +129,7 @@ items_more t r u o h e more (suc k) le =
     ap (items_from (items_at k)) (sym h) ∙ ap (items_by (items_at k u) r) (sym e)
     ∙ ap (with_item r) (more k room)
 
+-- one range before others
 pub ranges_more : (old mid new : Automaton) (r : ℕ × ℕ) (rs : List (ℕ × ℕ))
     → AddsRanges old (2 ^ old.size) (r ∷ []) mid → AddsRanges mid (2 ^ mid.size) rs new
     → AddsRanges old (2 ^ old.size) (r ∷ rs) new
@@ -132,6 +143,7 @@ ranges_more old mid new r rs x y = record {
   follow = y.follow ∙ x.follow;
 }
 
+-- one item before others, with their ranges
 pub items_passed : (t u : List ℕ) (r : ℕ × ℕ) (old mid new : Automaton)
     (result : Result (Option (Bor (List ℕ))) AllocError)
     → Some (r, u) ≡ item_at t → None ≡ behind 93 u → AddsRanges old (2 ^ old.size) (r ∷ []) mid
@@ -148,6 +160,7 @@ items_passed t u r old mid new (Err error) h e x y = tt
 
 -- ---- runs
 
+-- alternatives are read, from however much
 pub alt_parsed : (t : List ℕ) (r : Result Found ℕ)
     → ((j : ℕ) → needed Parts t ≤ j → alt_by (parse j Alternatives) (parse j Parts t) ≡ r)
     → Reads Alternatives t r
@@ -157,6 +170,7 @@ alt_parsed t r f = record { parsed = by } where
   by zero le = absurd (omega arith)
   by (suc j) le = f j (omega arith)
 
+-- a sequence is read, from however much
 pub seq_parsed : (t : List ℕ) (r : Result Found ℕ)
     → ((j : ℕ) → 2 * length t ≤ j → seq_by (parse j Parts) t (rep_at (parse j Alternatives) t) ≡ r)
     → Reads Parts t r
@@ -166,12 +180,14 @@ seq_parsed t r f = record { parsed = by } where
   by zero le = absurd (omega arith)
   by (suc j) le = f j (omega arith)
 
+-- alternatives fail where their first side does
 pub alt_fails : (t : List ℕ) (old new : Automaton) (e : Stop) → ReadsRun Parts t old new (Err e)
     → ReadsRun Alternatives t old new (Err e)
 alt_fails t old new NoMemory h = tt
 alt_fails t old new (Left l) h =
     alt_parsed t (Err l) (λ j le. ap (alt_by (parse j Alternatives)) (h.parsed j le))
 
+-- one side alone
 pub alt_one : (t : List ℕ) (old new : Automaton) (p : Parsed) → None ≡ behind 124 p.rest.now
     → ReadsRun Parts t old new (Ok p) → ReadsRun Alternatives t old new (Ok p)
 alt_one t old new p none h = (
@@ -218,12 +234,14 @@ module _ (t : List ℕ) (old mid : Automaton) (p : Parsed) (u : List ℕ)
 
 -- ---- sequences
 
+-- a sequence fails where its first part does
 pub seq_fails : (t : List ℕ) (old new : Automaton) (e : Stop) → ReadsOne rep_at t old new (Err e)
     → ReadsRun Parts t old new (Err e)
 seq_fails t old new NoMemory h = tt
 seq_fails t old new (Left l) h =
     seq_parsed t (Err l) (λ j le. ap (seq_by (parse j Parts) t) (h.parsed j le))
 
+-- a sequence of nothing
 pub seq_nothing : (t : List ℕ) (old new : Automaton) (part : Part) (rest : Bor (List ℕ))
     → rest.now ≡ t → IsFresh old → ((n : ℕ) → Sums part Nothing n)
     → ReadsOne rep_at t old new (Ok None)
@@ -276,6 +294,7 @@ module _ (t : List ℕ) (old mid : Automaton) (p : Parsed)
 
 -- ---- repetitions
 
+-- a `$`
 pub end_reads : (t : List ℕ) (old : Automaton) (part : Part) (rest : Bor (List ℕ))
     → Some rest.now ≡ behind 36 t → IsFresh old → ((n : ℕ) → Sums part End n)
     → ReadsOne rep_at t old old (Ok (Some (record { part = part; rest = rest })))
@@ -292,6 +311,7 @@ end_reads t old part rest some fresh sums =
       omega (arith, short),
     )
 
+-- a repetition fails where its atom does
 pub rep_fails : (t : List ℕ) (old new : Automaton) (e : Stop) → None ≡ behind 36 t
     → ReadsOne atom_at t old new (Err e) → ReadsOne rep_at t old new (Err e)
 rep_fails t old new NoMemory none h = tt
@@ -301,6 +321,7 @@ rep_fails t old new (Left l) none h =
           ∙ ap repeated (h.parsed k le);
     }
 
+-- no atom, no repetition
 pub rep_none : (t : List ℕ) (old new : Automaton) → None ≡ behind 36 t
     → ReadsOne atom_at t old new (Ok None) → ReadsOne rep_at t old new (Ok None)
 rep_none t old new none h = (
@@ -311,6 +332,7 @@ rep_none t old new none h = (
   h.1,
 )
 
+-- an atom with what follows it
 pub rep_reads : (t : List ℕ) (old mid new : Automaton) (p q : Parsed) → None ≡ behind 36 t
     → ReadsOne atom_at t old mid (Ok (Some p)) → Repeats mid p new q
     → ReadsOne rep_at t old new (Ok (Some q))
@@ -327,6 +349,7 @@ rep_reads t old mid new p q none h repeats =
 
 -- ---- atoms
 
+-- a single character
 pub single_reads : (t : List ℕ) (old mid new : Automaton) (negated : Bool) (r : ℕ × ℕ) (part : Part)
     (rest : Bor (List ℕ))
     → None ≡ behind 40 t → None ≡ behind 91 t
@@ -400,6 +423,7 @@ single_reads t old mid new negated r part rest no_group no_class some fresh rang
             let less = escaped_shorter u (behind 100 u) x refl h in omega arith
         by_dot None None e f h = literal_shorter t x h
 
+-- the text begins with no atom
 pub no_atom : (t : List ℕ) (old : Automaton) → None ≡ behind 40 t → None ≡ behind 91 t
     → None ≡ single_at t → ReadsOne atom_at t old old (Ok None)
 no_atom t old no_group no_class none = (
@@ -411,6 +435,7 @@ no_atom t old no_group no_class none = (
   refl,
 )
 
+-- a class
 pub class_reads : (t u v : List ℕ) (negated : Bool) (old new : Automaton)
     (r : Result (Option Parsed) Stop) → behind 40 t ≡ None → behind 91 t ≡ Some u
     → length v ≤ length u → class_by (length t) u (behind 94 u) ≡ class_of (length t) negated

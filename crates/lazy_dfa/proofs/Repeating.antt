@@ -21,6 +21,7 @@ behind_is d (c ∷ t) u h = by_test (c == d) refl h where
   by_test true e h = let same : u ≡ t = cc in let first : c ≡ d = eqb-true c d e in cc
   by_test false e h = absurd cc
 
+-- less by one is left behind a character
 pub behind_shorter : (d : ℕ) (t u : List ℕ) → Some u ≡ behind d t → length t ≡ length u + 1
 behind_shorter d t u h =
     ap length (behind_is d t u h) ∙ (let e : length (d ∷ u) ≡ length u + 1 = omega arith in e)

@@ -39,6 +39,7 @@ use Rattle.lazy_dfa.proofs.Advancing.{step_reached}
 
 -- ---- classes of characters
 
+-- two tests that say the same
 same_le : (a b c d : ℕ) → (a ≤ b → c ≤ d) → (c ≤ d → a ≤ b) → nat_le a b ≡ nat_le c d
 same_le a b c d f g = elim (cases_lt b a) [
   | inr le ↦ le-leb a b le ∙ sym (le-leb c d (f le))
@@ -70,6 +71,7 @@ module _ (firsts : List ℕ) (c k : ℕ) (scalar : IsScalar c) (h : IsInClass fi
       (λ le. up_to_end r.last e.next e.is_next e.ends le) in
       ap (λ b. b && nat_le c r.last) low ∙ ap (λ b. nat_le r.first (slice_index firsts k) && b) high
 
+-- a list passes two tests alike that say the same of each element
 same_any : {X : Type 0} (f g : X → Bool) (xs : List X) → All (λ x. f x ≡ g x) xs
     → list_any f xs ≡ list_any g xs
 same_any f g [] h = refl
@@ -115,6 +117,7 @@ edged_more old new ranges n before keeps within f here = λ k d lt. elim (cases_
       (subst (λ (r : Range). IsEdged new r) (get_or_default ranges n f d within) here)
 ]
 
+-- sorted and without doubles, the edges of the ranges are classes
 pub classes_from : (ranges read : List Range) (edges sorted firsts : List ℕ) → read ≡ ranges
     → Contains edges 0 → All (IsEdged edges) read → IsPermutation edges sorted
     → IsSorted nat_cmp sorted
@@ -161,6 +164,7 @@ class_before firsts c next sorted least le below above =
 
 -- ---- stepping by a row
 
+-- a row steps as the automaton does
 pub row_steps : (m : Machine) (firsts sets : List ℕ) (from : Option ℕ) (row : List ℕ) (c k : ℕ)
     → IsScalar c → IsClasses m.ranges firsts → IsInClass firsts c k
     → IsRow m firsts sets from (length firsts) row
@@ -197,21 +201,25 @@ table_step m t place row firsts c k next set table at is_row is_firsts scalar h 
 
 -- ---- sets that were found
 
+-- the sets as they are
 pub longer_none : (sets : List ℕ) → IsLonger sets sets
 longer_none sets = record { longer = omega arith; same = λ i lt. refl }
 
+-- one set more
 pub longer_one : (sets : List ℕ) (set : ℕ) → IsLonger sets (sets ++ set ∷ [])
 longer_one sets set = record {
   longer = omega (arith, length-append sets (set ∷ []));
   same = λ i lt. get_or_append_left sets (set ∷ []) 0 i lt;
 }
 
+-- more sets, and then more again
 pub longer_both : (a b c : List ℕ) → IsLonger a b → IsLonger b c → IsLonger a c
 longer_both a b c p q = record {
   longer = omega (arith, p.longer, q.longer);
   same = λ i lt. q.same i (omega (arith, p.longer)) ∙ p.same i lt;
 }
 
+-- the state before the first character is reached
 pub reached_start : (m : Machine) → IsReachable m None
 reached_start m = λ c f. ([], All-nil IsScalar, refl)
 
@@ -250,11 +258,13 @@ found_one m sets set h r none = record {
 
 -- ---- too many states
 
+-- two answers that say the same
 same_bools : (a b : Bool) → (a ≡ true → b ≡ true) → (b ≡ true → a ≡ true) → a ≡ b
 same_bools true b f g = sym (f refl)
 same_bools false true f g = g refl
 same_bools false false f g = refl
 
+-- bits by their tests
 same_bits : (a b : ℕ) → (a ≡ 0) ⊎ (a ≡ 1) → (b ≡ 0) ⊎ (b ≡ 1) → (a == 1) ≡ (b == 1) → a ≡ b
 same_bits a b (inl x) (inl y) e = x ∙ sym y
 same_bits a b (inr x) (inr y) e = x ∙ sym y
@@ -303,6 +313,7 @@ too_large m sets set found full none r = λ c f.
 
 -- ---- rows
 
+-- a row of no classes
 pub row_nothing : (m : Machine) (firsts sets : List ℕ) (from : Option ℕ)
     → IsRow m firsts sets from 0 []
 row_nothing m firsts sets from =
@@ -358,6 +369,7 @@ state_longer : (old new : List ℕ) (n : ℕ) → IsLonger old new → n ≤ len
 state_longer old new zero longer le = refl
 state_longer old new (suc i) longer le = ap (λ (s : ℕ). Some s) (longer.same i (omega (arith, le)))
 
+-- no rows
 pub rows_nothing : (m : Machine) (firsts sets : List ℕ) → AreRows m firsts sets []
 rows_nothing m firsts sets = λ n d lt. absurd (omega (arith, lt))
 
@@ -430,6 +442,7 @@ pub reached_state : (m : Machine) (sets : List ℕ) (n : ℕ) → AreFound m set
 reached_state m sets zero h le = reached_start m
 reached_state m sets (suc i) h le = h.reached i (omega (arith, le))
 
+-- the state that was read from the sets is reached
 pub reached_at : (m : Machine) (sets read : List ℕ) (n : ℕ) (r : Option ℕ) → AreFound m sets
     → read ≡ sets → n ≤ length sets → r ≡ state read n → IsReachable m r
 reached_at m sets read n r h same le is =

@@ -16,23 +16,28 @@ use Rattle.lazy_dfa.proofs.Reaching.{follow_reached}
 
 -- ---- a text that another begins with
 
+-- a front has the same characters
 slice_get-front : (u w : List ℕ) (k : ℕ) → k < length u → slice_get u k ≡ slice_get (u ++ w) k
 slice_get-front [] w k lt = absurd (omega arith)
 slice_get-front (c ∷ u) w zero lt = refl
 slice_get-front (c ∷ u) w (suc k) lt = slice_get-front u w k (omega arith)
 
+-- the character behind a front
 slice_get-seam : (u : List ℕ) (c : ℕ) (w : List ℕ) → slice_get (u ++ c ∷ w) (length u) ≡ Some c
 slice_get-seam [] c w = refl
 slice_get-seam (d ∷ u) c w = slice_get-seam u c w
 
+-- a text agrees with a longer one
 longer : (u w : List ℕ) → Agree u (u ++ w) (length u)
 longer u w = record { same = slice_get-front u w }
 
+-- a text agrees with its front
 shorter : (u w : List ℕ) → Agree (u ++ w) u (length u)
 shorter u w = record { same = λ k lt. sym (slice_get-front u w k lt) }
 
 -- ---- readings that may pass a `$` at the text's end
 
+-- what is empty is so at the end
 pub empty_more : (e : Expression) → empty false e ≡ true → empty true e ≡ true
 empty_more Nothing h = refl
 empty_more (OneOf set) h = absurd cc
@@ -47,6 +52,7 @@ empty_more (Star a) h = refl
 empty_more (Plus a) h = empty_more a h
 empty_more (Optional a) h = refl
 
+-- last atoms are so at the end
 pub last_more : (e : Expression) (n p : ℕ) → last false e n p ≡ true → last true e n p ≡ true
 last_more Nothing n p h = absurd cc
 last_more (OneOf set) n p h = h
@@ -72,6 +78,7 @@ last_more (Optional a) n p h = last_more a n p h
 abbrev pub Split : List ℕ → Expression → ℕ → ℕ → ℕ → Type 0
 Split s e n i j = Reading s None e i j ⊎ ((j ≡ length s) × Whole s true e n i (length s))
 
+-- what was read whole is so at the end
 whole_more : (s : List ℕ) (e : Expression) (n i j : ℕ) → Whole s false e n i j
     → Whole s true e n i j
 whole_more s e n i j (inl x) = inl (x.0, empty_more e x.1)
@@ -90,6 +97,7 @@ nothing_left s e n j (inr h) = elim h.1 [
   | inr x ↦ absurd (omega (arith, (Reaches_is s e n (length s) (length s) x.0 x.1).some))
 ]
 
+-- a chain that reads with a `$` reads without, or up to the end
 chain_split : (s : List ℕ) (a : Expression) (n : ℕ)
     → ((i j : ℕ) → Reading s (Some (length s)) a i j → Split s a n i j)
     → (i j : ℕ) → Chain (Reading s (Some (length s)) a) i j
@@ -119,6 +127,7 @@ chain_split s a n part i j (step {k = k} r c) = elim (part i k r) [
   at_end k j e (step {k = m} r c) =
       at_end m j (nothing_left s a n m (subst (λ (x : ℕ). Split s a n x m) e (part k m r))).0 c
 
+-- what reads with a `$` reads without, or up to the end
 pub read_split : (s : List ℕ) (e : Expression) (n i j : ℕ) → Reading s (Some (length s)) e i j
     → Split s e n i j
 read_split s Nothing n i j h = inl h
@@ -255,9 +264,11 @@ pub record HoldsBy (c : Expression) (u : List ℕ) (p : ℕ) : Type 0 where
   pub reached : after c u p
   pub ending : last true c 0 p ≡ true
 
+-- what holds early holds
 pub holds_early : (c : Expression) (u : List ℕ) → early c u → holds c u
 holds_early c u h = (h.0, Reading_any u (Some (length u)) c 0 h.0 h.1)
 
+-- where a last atom is reached at the end, it holds
 pub holds_by : (c : Expression) (u : List ℕ) (p : ℕ) → HoldsBy c u p → holds c u
 holds_by c u p h = (
   length u,
@@ -265,9 +276,11 @@ holds_by c u p h = (
       h.ending,
 )
 
+-- what is empty at the end holds on the empty text
 pub holds_empty : (c : Expression) → empty true c ≡ true → holds c []
 holds_empty c h = (0, empty_reads [] true (Some 0) c 0 (λ e. refl) h)
 
+-- why a condition holds
 pub holds_cases : (c : Expression) (u : List ℕ) → holds c u → early c u
     ⊎ (((u ≡ []) × (empty true c ≡ true)) ⊎ ((p : ℕ) × HoldsBy c u p))
 holds_cases c u h = elim (read_split u c 0 0 h.0 h.1) [
@@ -280,6 +293,7 @@ holds_cases c u h = elim (read_split u c 0 0 h.0 h.1) [
 
 -- ---- early answers
 
+-- what holds early holds so on longer texts
 pub early_longer : (c : Expression) (u w : List ℕ) → early c u → early c (u ++ w)
 early_longer c u w h = elim (cases_lt (length u) h.0) [
   | inr le ↦ (h.0, Reading_agree u (u ++ w) (length u) (longer u w) c 0 h.0 le h.1)
@@ -298,6 +312,7 @@ reached_before s e n i k (suc m) j q same lt h =
     let b = reached_behind s e n i j q (k + m) (omega arith) (omega arith) h in
     reached_before s e n i k m (k + m) b.place refl lt b.reached
 
+-- what is reached from a longer text makes a front
 reached_front : (c : Expression) (u w : List ℕ) (j q : ℕ) → length u ≤ j
     → Reaches (u ++ w) c 0 0 j q → front c u
 reached_front c [] w j q le h = inl refl
@@ -310,6 +325,7 @@ reached_front c (d ∷ u) w j q le h =
           (length (d ∷ u)) b.0 (omega arith) b.1,
     )
 
+-- a front of a front is one
 pub front_shorter : (c : Expression) (u w : List ℕ) → front c (u ++ w) → front c u
 front_shorter c [] w h = inl refl
 front_shorter c (d ∷ u) w (inl h) = absurd cc
@@ -340,11 +356,13 @@ holds_longer c u w h = elim (holds_cases c (u ++ w) h) [
 
 -- ---- one character more
 
+-- a first atom that reads the first character
 pub after_first : (c : Expression) (d q : ℕ) → (first c 0 q && reads c 0 q d) ≡ true
     → after c (d ∷ []) q
 after_first c d q h = let both = and_parts (first c 0 q) (reads c 0 q d) h in
     first_reached (d ∷ []) c 0 0 q both.0 (record { character = d; there = refl; read = both.1 })
 
+-- what reads the first character is a first atom
 pub first_after : (c : Expression) (d q : ℕ) → after c (d ∷ []) q
     → (first c 0 q && reads c 0 q d) ≡ true
 first_after c d q h =
@@ -355,9 +373,11 @@ first_after c d q h =
       some_is : {x y : ℕ} → Some x ≡ Some y → x ≡ y
       some_is e = cc
 
+-- one character more
 length-end : (u : List ℕ) (d : ℕ) → length (u ++ d ∷ []) ≡ length u + 1
 length-end u d = length-append u (d ∷ [])
 
+-- what follows and reads one character more
 pub after_follow : (c : Expression) (u : List ℕ) (d p q : ℕ) → after c u p
     → (follow c 0 p q && reads c 0 q d) ≡ true → after c (u ++ d ∷ []) q
 after_follow c u d p q h f =
@@ -367,6 +387,7 @@ after_follow c u d p q h f =
     (omega arith) h)
     both.0 (record { character = d; there = slice_get-seam u d []; read = both.1 }))
 
+-- what reads one character more follows
 pub follow_after : (c : Expression) (u : List ℕ) (d q : ℕ) → 0 < length u → after c (u ++ d ∷ []) q
     → (p : ℕ) × after c u p × ((follow c 0 p q && reads c 0 q d) ≡ true)
 follow_after c u d q some h =
@@ -388,19 +409,23 @@ pub record EarlyBy (c : Expression) (u : List ℕ) (p : ℕ) : Type 0 where
   pub reached : after c u p
   pub ending : last false c 0 p ≡ true
 
+-- where a last atom is reached, it holds early
 pub early_by : (c : Expression) (u : List ℕ) (p : ℕ) → EarlyBy c u p → early c u
 early_by c u p h =
     (length u, last_reads u false None c 0 0 (length u) p (λ e. absurd cc) h.reached h.ending)
 
+-- what is empty holds early
 pub early_empty : (c : Expression) → empty false c ≡ true → early c []
 early_empty c h = (0, empty_reads [] false None c 0 (λ e. absurd cc) h)
 
+-- what holds early on the empty text is empty
 pub empty_early : (c : Expression) → early c [] → empty false c ≡ true
 empty_early c h = elim (read_whole [] c 0 0 h.0 h.1) [
   | inl x ↦ x.1
   | inr x ↦ let at = Reaches_is [] c 0 0 h.0 x.0 x.1 in absurd (omega (arith, at.some, at.inside))
 ]
 
+-- what holds early with one character more
 pub early_more : (c : Expression) (u : List ℕ) (d : ℕ) → early c (u ++ d ∷ []) → early c u
     ⊎ ((p : ℕ) × EarlyBy c (u ++ d ∷ []) p)
 early_more c u d h = elim (read_whole (u ++ d ∷ []) c 0 0 h.0 h.1) [

@@ -13,8 +13,8 @@ use Rattle.lazy_dfa.specs.Sets.{has}
 abbrev pub range_reads : ℕ → ℕ → Range → Bool
 range_reads p c r = has r.atom p && in_range c (r.first, r.last)
 
--- whether the atom at the place p reads the character, by the ranges of all atoms and the places
--- of the negated ones
+-- whether the atom at the place p reads the character, by the ranges of all atoms and the places of
+-- the negated ones
 abbrev pub atom_reads : List Range → ℕ → ℕ → ℕ → Bool
 atom_reads ranges negated p c = negated_if (has negated p) (list_any (range_reads p c) ranges)
 

@@ -1,6 +1,5 @@
--- What a condition reads of a text. A text is a list of characters, and the characters i to j of
--- it are those from the
--- place i on, up to the place j.
+-- What a condition reads of a text. A text is a list of characters, and the characters i to j of it
+-- are those from the place i on, up to the place j.
 use Rattle.std.specs.Prelude.{◌≡◌, ℕ, ◌+◌, true, List, [], length, slice_get, Option, Some, None}
 use Rattle.std.specs.Prelude.{◌⊎◌}
 use Rattle.lazy_dfa.specs.Expression.{CharacterSet, contains, Expression, Nothing, OneOf, End}
@@ -42,8 +41,8 @@ abbrev pub early : Expression → List ℕ → Type 0
 early c u = (j : ℕ) × Reading u None c 0 j
 
 -- The expression is begun at the place i of a text and passes no `$`, and its atom at the place p
--- reads the
--- character before the place j. The places of its atoms are n, n + 1 and so on, from left to right.
+-- reads the character before the place j. The places of its atoms are n, n + 1 and so on, from left
+-- to right.
 abbrev pub Reaches : List ℕ → Expression → ℕ → ℕ → ℕ → ℕ → Type 0
 Reaches s Nothing n i j p = ⊥
 Reaches s (OneOf set) n i j p = (p ≡ n) × (j ≡ i + 1) × ReadsAt s set i
@@ -56,8 +55,7 @@ Reaches s (Plus a) n i j p = (k : ℕ) × Chain (Reading s None a) i k × Reache
 Reaches s (Optional a) n i j p = Reaches s a n i j p
 
 -- The places of the atoms that can read the last character of the text, where it is read from the
--- condition's start,
--- perhaps ending inside it, and no `$` is passed.
+-- condition's start, perhaps ending inside it, and no `$` is passed.
 abbrev pub after : Expression → List ℕ → ℕ → Type 0
 after c u p = Reaches u c 0 0 (length u) p
 

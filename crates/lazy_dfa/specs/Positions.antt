@@ -1,6 +1,6 @@
 -- How the crate works: the position automaton of a condition, that is which atoms can read first,
--- which can read last, and which can read behind
--- which. The places of an expression's atoms are n, n + 1 and so on, from left to right.
+-- which can read last, and which can read behind which. The places of an expression's atoms are n,
+-- n + 1 and so on, from left to right.
 use Rattle.std.specs.Prelude.{ℕ, ◌+◌, Bool, true, false, ◌&&◌, ◌||◌, ◌==◌}
 use Rattle.lazy_dfa.specs.Expression.{contains, Expression, Nothing, OneOf, End, Sequence, Choice}
 use Rattle.lazy_dfa.specs.Expression.{Star, Plus, Optional, size}

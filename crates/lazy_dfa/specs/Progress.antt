@@ -6,8 +6,7 @@ use Rattle.lazy_dfa.specs.Machine.{Machine}
 use Rattle.lazy_dfa.specs.Sets.{has}
 
 -- what a contract sees of a stepper: the condition, the positions that the text so far reaches
--- (none before its first
--- character), and how many pushes were refused
+-- (none before its first character), and how many pushes were refused
 pub record Progress : Type 0 where
   pub machine : Machine
   pub reached : Option ℕ

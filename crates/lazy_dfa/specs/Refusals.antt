@@ -38,8 +38,7 @@ abbrev pub most_states : ℕ
 most_states = 256
 
 -- As many texts that aren't empty have pairwise different `after`: with the state before the first
--- character, there
--- are more states than a table has.
+-- character, there are more states than a table has.
 pub record HasManyStates (c : Expression) : Type 0 where
   pub text : ℕ → List ℕ
   pub characters : (i : ℕ) → i < most_states → All IsScalar (text i)

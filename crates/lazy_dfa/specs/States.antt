@@ -1,6 +1,5 @@
 -- How the crate works: the state table, by which it steps where a condition has one. A state is
--- what a text reaches: nothing before its
--- first character, and then a set of positions.
+-- what a text reaches: nothing before its first character, and then a set of positions.
 use Rattle.std.specs.Prelude.{◌≡◌, ℕ, zero, suc, ◌+◌, ◌≤◌, ◌<◌, List, length, slice_index}
 use Rattle.std.specs.Prelude.{slice_index_or, Option, Some, None, Result, Ok, Err, [], ◌∷◌, ◌++◌}
 use Rattle.std.specs.Prelude.{◌⊎◌}
@@ -27,6 +26,7 @@ abbrev pub IsNext : ℕ → Option ℕ → Type 0
 IsNext c None = (d : ℕ) → IsScalar d → d ≤ c
 IsNext c (Some next) = (c < next) × ((d : ℕ) → IsScalar d → c < d → next ≤ d)
 
+-- where there is a next character, it is among them
 abbrev pub ContainsNext : List ℕ → Option ℕ → Type 0
 ContainsNext firsts None = Unit {0}
 ContainsNext firsts (Some next) = Contains firsts next
@@ -100,7 +100,7 @@ pub record IsRow (m : Machine) (firsts sets : List ℕ) (from : Option ℕ) (k :
   pub steps : (i : ℕ) → i < k
       → IsStep m from (slice_index firsts i) (Some (slice_index sets (slice_index row i)))
 
--- the first n states have their rows
+-- each row is that of the state with its number
 abbrev pub AreRows : Machine → List ℕ → List ℕ → List (Vec ℕ Global) → Type 0
 AreRows m firsts sets rows = (n : ℕ) (d : Vec ℕ Global) → n < length rows
     → IsRow m firsts sets (state sets n) (length firsts) (slice_index_or rows n d).items
@@ -124,6 +124,7 @@ pub record IsTable (m : Machine) (t : Table) : Type 0 where
   pub all : length t.rows.items ≡ length t.sets.items + 1
   pub rows : AreRows m t.firsts.items t.sets.items t.rows.items
 
+-- where there is a table, it steps as the automaton does
 abbrev pub HasTable : Machine → Option Table → Type 0
 HasTable m None = Unit {0}
 HasTable m (Some t) = IsTable m t
@@ -139,9 +140,11 @@ pub record IsAtRow (t : Table) (place : Place) : Type 0 where
   pub within : place.row < length t.rows.items
   pub here : place.reached ≡ state t.sets.items place.row
 
+-- where there is a table, the row is that of the state
 abbrev pub IsAt : Option Table → Place → Type 0
 IsAt None place = Unit {0}
 IsAt (Some t) place = IsAtRow t place
 
+-- what a contract sees of a matcher
 abbrev pub machine : Matcher → Machine
 machine matcher = machine_of matcher.automaton matcher.whole

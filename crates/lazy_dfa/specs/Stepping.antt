@@ -11,8 +11,7 @@ abbrev pub Decided : Expression → List ℕ → Type 0
 Decided c u = early c u ⊎ (front c u → ⊥)
 
 -- The stepper read the text. It passed no place at which the condition holds whatever follows, and
--- refused a push
--- only where the condition was decided.
+-- refused a push only where the condition was decided.
 pub record HasRead (c : Expression) (u : List ℕ) (s : Progress) : Type 0 where
   pub reached : IsReached c u s.reached
   pub unsettled : (v w : List ℕ) → u ≡ v ++ w → 0 < length w → early c v → ⊥

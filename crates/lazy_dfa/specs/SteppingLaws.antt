@@ -7,6 +7,7 @@ use Rattle.lazy_dfa.specs.Machine.{Machine, IsFor}
 use Rattle.lazy_dfa.specs.Stepping.{HasRead, Took}
 use Rattle.lazy_dfa.specs.Progress.{Progress, begun}
 
+-- a stepper took no characters
 pub Took-nothing : (s : Progress) → Took s [] s
 Took-nothing s = record {
   machine = refl;
@@ -14,6 +15,7 @@ Took-nothing s = record {
   later = omega arith;
 }
 
+-- a stepper took a text, and then another one
 pub Took-both : (a b c : Progress) (s t : List ℕ) → Took a s b → Took b t c → Took a (s ++ t) c
 Took-both a b c s t p q = record {
   machine = q.machine ∙ p.machine;

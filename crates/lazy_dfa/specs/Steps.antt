@@ -15,10 +15,12 @@ IsStep m r d None = ⊥
 IsStep m r d (Some set) =
     (q : ℕ) → has set q ≡ (next_has m r q && atom_reads m.ranges m.negated q d)
 
+-- a text that reaches these positions decides: none is left, or one of them can be the last
 abbrev pub IsDecidedAt : Machine → Option ℕ → Type 0
 IsDecidedAt m None = m.whole.empty ≡ true
 IsDecidedAt m (Some set) = (set ≡ 0) ⊎ Meet set m.whole.last
 
+-- the condition holds on a text that reaches these positions
 abbrev pub HoldsAt : Machine → Option ℕ → Type 0
 HoldsAt m None = m.whole.empty_at_end ≡ true
 HoldsAt m (Some set) = Meet set m.whole.last_at_end

@@ -77,6 +77,7 @@ pub data IsPart : Kind → List ℕ → Expression → Type 0 where
 abbrev pub alt : List ℕ → Expression → Type 0
 alt text e = IsPart Alt text e
 
+-- the text is no `alt`
 abbrev pub IsNoAlt : List ℕ → Type 0
 IsNoAlt text = (e : Expression) → alt text e → ⊥
 
