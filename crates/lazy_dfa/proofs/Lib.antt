@@ -1,0 +1,16 @@
+pub mod Ranges
+pub mod Bounds
+pub mod Reaching
+pub mod Texts
+pub mod Sets
+pub mod Building
+pub mod Linking
+pub mod Repeating
+pub mod ReadingSteps
+pub mod Grammar
+pub mod Longest
+pub mod Compiling
+pub mod Advancing
+pub mod Pushing
+pub mod Matching
+pub mod States

@@ -1,0 +1,16 @@
+pub mod Expression
+pub mod Meaning
+pub mod Positions
+pub mod Syntax
+pub mod Parsing
+pub mod Sets
+pub mod Compiled
+pub mod Building
+pub mod Machine
+pub mod Steps
+pub mod Progress
+pub mod Stepping
+pub mod States
+pub mod SteppingLaws
+pub mod Words
+pub mod Refusals
