@@ -1,0 +1,10 @@
+pub mod Overlap
+pub mod OverlapLaws
+pub mod Passed
+pub mod PassedLaws
+pub mod Position
+pub mod PositionLaws
+pub mod Replaced
+pub mod ReplacedLaws
+pub mod TriedLaws
+pub mod WentLaws

@@ -1,0 +1,92 @@
+-- Texts that a sink takes one after another, and what it passes on of them.
+use Rattle.std.specs.Prelude.{Result, Err, IsErrOf}
+use Rattle.std.proofs.Common.{◌≡◌, ℕ, ◌-◌, ◌≤◌, Bool, true, List, [], ◌∷◌, ◌++◌, length, take, Option, Some, None, refl, sym, ap, ◌∙◌, subst, arith, append_assoc}
+use Rattle.writeable_core.specs.Sink.{TookPrefix, HasCause, Rose}
+use Rattle.writeable_core.specs.SinkLaws.{front_of_longer, front_after, rose_earlier}
+use Rattle.writeable_core.specs.declared.sink.SinkError.{SinkError}
+use Rattle.writeable_replace.specs.Passed.{so_far, position_after, passed_on, Passed, Refused, Went}
+use Rattle.writeable_replace.specs.PassedLaws.{Both, both, Came, nothing_came}
+
+-- what follows the text so far
+so_far_both : (p : List ℕ) (k : ℕ) (s t : List ℕ) → so_far p k (s ++ t) ≡ so_far p k s ++ t
+so_far_both p k s t = sym (append_assoc (take k p) s t)
+
+-- a text's steps, by the sink behind
+pub passed_by : {S : Type 0} {took : S → List ℕ → S → Type 0} (p r : List ℕ) {k j : ℕ} {a b : S} (t : List ℕ) {o : List ℕ}
+    → Came p r (so_far p k t) j o → took a o b → Passed took p r k a t j b
+passed_by {took} p r {a} {b} t came taken = record {
+  position = sym came.position;
+  taken = subst (λ o. took a o b) (sym came.text) taken;
+}
+
+pub refused_by : {S T : Type 0} {took : S → List ℕ → S → Type 0} {faults : S → ℕ} {memory : S → Bool} (p r : List ℕ) {k j : ℕ} {a b : S} (t : List ℕ) {o : List ℕ} {e : SinkError}
+    → Came p r (so_far p k t) j o → TookPrefix took a o b → HasCause {T = T} (faults a) (faults b) (memory a) (Err e) → Refused took faults memory p r k a t e b
+refused_by {T} {took} p r {a} {b} t came front cause = record {
+  front = subst (λ o. TookPrefix took a o b) (sym came.text) front;
+  fault = λ is. cause.fault (ap Err is);
+  no_memory = λ is. cause.no_memory (ap Err is);
+}
+
+pub passed_nothing : {S : Type 0} {took : S → List ℕ → S → Type 0} (p r : List ℕ) {k : ℕ} {a : S} → k ≤ length p - 1 → took a [] a → Passed took p r k a [] k a
+passed_nothing p r {k} le nothing = passed_by p r [] (nothing_came p r k le) nothing
+
+-- a text was passed on, and then another
+pub passed_both : {S : Type 0} {took : S → List ℕ → S → Type 0} (p r : List ℕ) {k j l : ℕ} {a b c : S} (s t : List ℕ)
+    → ((a b c : S) (s t : List ℕ) → took a s b → took b t c → took a (s ++ t) c)
+    → Passed took p r k a s j b → Passed took p r j b t l c → Passed took p r k a (s ++ t) l c
+passed_both {took} p r {k} {j} {l} {a} {b} {c} s t join first last =
+    let all = both p r (so_far p k s) t in
+    let from = ap (λ i. so_far p i t) first.position in
+    record {
+      position = last.position ∙ ap (position_after p) from ∙ sym all.position ∙ ap (position_after p) (sym (so_far_both p k s t));
+      taken = subst (λ o. took a o c)
+          (ap (λ u. passed_on p r (so_far p k s) ++ passed_on p r u) from ∙ sym all.text ∙ ap (passed_on p r) (sym (so_far_both p k s t)))
+          (join a b c (passed_on p r (so_far p k s)) (passed_on p r (so_far p j t)) first.taken last.taken);
+    }
+
+-- a text was passed on, and within another the sink behind refused
+pub refused_later : {S : Type 0} {took : S → List ℕ → S → Type 0} {faults : S → ℕ} {memory : S → Bool} (p r : List ℕ) {k j : ℕ} {a b c : S} (s t : List ℕ) {e : SinkError}
+    → ((a b c : S) (s t : List ℕ) → took a s b → took b t c → took a (s ++ t) c)
+    → ((a b : S) (t : List ℕ) → took a t b → faults a ≤ faults b) → ((a b : S) (t : List ℕ) → took a t b → memory b ≡ memory a)
+    → Passed took p r k a s j b → Refused took faults memory p r j b t e c → Refused took faults memory p r k a (s ++ t) e c
+refused_later {took} {faults} p r {k} {j} {a} {b} {c} s t join later same first last =
+    let all = both p r (so_far p k s) t in
+    let from = ap (λ i. so_far p i t) first.position in
+    record {
+      front = subst (λ o. TookPrefix took a o c)
+          (ap (λ u. passed_on p r (so_far p k s) ++ passed_on p r u) from ∙ sym all.text ∙ ap (passed_on p r) (sym (so_far_both p k s t)))
+          (front_after (passed_on p r (so_far p k s)) (passed_on p r (so_far p j t)) join first.taken last.front);
+      fault = λ is. rose_earlier (faults a) (faults b) (faults c) (later a b (passed_on p r (so_far p k s)) first.taken) (last.fault is);
+      no_memory = λ is. sym (same a b (passed_on p r (so_far p k s)) first.taken) ∙ last.no_memory is;
+    }
+
+-- the sink behind refused within a text, and then it got nothing of another
+pub refused_longer : {S : Type 0} {took : S → List ℕ → S → Type 0} {faults : S → ℕ} {memory : S → Bool} (p r : List ℕ) {k : ℕ} {a b : S} (s t : List ℕ) {e : SinkError}
+    → Refused took faults memory p r k a s e b → Refused took faults memory p r k a (s ++ t) e b
+refused_longer {took} p r {k} {a} {b} s t first =
+    let all = both p r (so_far p k s) t in
+    record {
+      front = subst (λ o. TookPrefix took a o b) (sym all.text ∙ ap (passed_on p r) (sym (so_far_both p k s t)))
+          (front_of_longer (passed_on p r (so_far p k s)) (passed_on p r (so_far p (position_after p (so_far p k s)) t)) first.front);
+      fault = first.fault;
+      no_memory = first.no_memory;
+    }
+
+pub went_nothing : {S : Type 0} (took : S → List ℕ → S → Type 0) (faults : S → ℕ) (memory : S → Bool) (p r : List ℕ) (k : ℕ) (a : S) (e : Option SinkError)
+    → k ≤ length p - 1 → took a [] a → Went took faults memory p r k a [] k a e e
+went_nothing took faults memory p r k a None le nothing = passed_nothing p r le nothing
+went_nothing took faults memory p r k a (Some e) le nothing = (refl, refl)
+
+pub went_both : {S : Type 0} (took : S → List ℕ → S → Type 0) (faults : S → ℕ) (memory : S → Bool) (p r : List ℕ) (k j l : ℕ) (a b c : S) (s t : List ℕ) (e f g : Option SinkError)
+    → ((a b c : S) (s t : List ℕ) → took a s b → took b t c → took a (s ++ t) c)
+    → ((a b : S) (t : List ℕ) → took a t b → faults a ≤ faults b) → ((a b : S) (t : List ℕ) → took a t b → memory b ≡ memory a)
+    → Went took faults memory p r k a s j b e f → Went took faults memory p r j b t l c f g → Went took faults memory p r k a (s ++ t) l c e g
+went_both took faults memory p r k j l a b c s t None None None join later same first last = passed_both p r s t join first last
+went_both took faults memory p r k j l a b c s t None None (Some g) join later same first last = refused_later p r s t join later same first last
+went_both took faults memory p r k j l a b c s t None (Some f) None join later same first last = absurd (let e = last.0 in cc)
+went_both took faults memory p r k j l a b c s t None (Some f) (Some g) join later same first last =
+    let same_error : f ≡ g = let e = last.0 in cc in
+    subst (λ d. Refused took faults memory p r k a (s ++ t) d c) same_error
+    (subst (λ d. Refused took faults memory p r k a (s ++ t) f d) (sym last.1) (refused_longer p r s t first))
+went_both took faults memory p r k j l a b c s t (Some e) None g join later same first last = absurd (let e = first.0 in cc)
+went_both took faults memory p r k j l a b c s t (Some e) (Some f) g join later same first last = (last.0 ∙ first.0, last.1 ∙ first.1)
