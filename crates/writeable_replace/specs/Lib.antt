@@ -1,3 +1,4 @@
+pub mod Along
 pub mod Overlap
 pub mod OverlapLaws
 pub mod Passed

@@ -1,6 +1,7 @@
 -- How much of a text was matched: so many bytes, or the characters that they are.
-use Rattle.std.specs.Prelude.{◌≡◌, ℕ, ◌-◌, ◌<◌, ◌≤◌, suc, List, [], ◌∷◌, ◌++◌, length, take, chars, IsCharBoundary}
-use Rattle.writeable_replace.specs.Overlap.{Ends}
+use Rattle.std.specs.Prelude.{◌≡◌, ℕ, ◌+◌, ◌-◌, ◌<◌, ◌≤◌, suc, List, [], ◌∷◌, ◌++◌, length, take, chars, IsCharBoundary}
+use Rattle.std.specs.Char.{len_utf8}
+use Rattle.writeable_replace.specs.Overlap.{Ends, IsOverlap}
 
 -- how many characters the first n bytes of a text are
 abbrev pub position : List ℕ → ℕ → ℕ
@@ -15,9 +16,28 @@ pub record IsPosition (needle : List ℕ) (n : ℕ) : Type 0 where
 abbrev pub GoesOn : List ℕ → ℕ → ℕ → Type 0
 GoesOn p i c = take (suc i) p ≡ take i p ++ c ∷ []
 
+-- The bytes behind a position begin with those of c: the text goes on with c, and the position behind
+-- it is one character further.
+pub record Next (bytes : List ℕ) (n c : ℕ) : Type 0 where
+  pub goes_on : GoesOn (chars bytes) (position bytes n) c
+  pub boundary : IsCharBoundary bytes (n + len_utf8 c)
+  pub position : position bytes (n + len_utf8 c) ≡ suc (position bytes n)
+
+-- n bytes are the longest front of a text that ends it and isn't all of it
+pub record Border (bytes : List ℕ) (n : ℕ) : Type 0 where
+  pub boundary : IsCharBoundary bytes n
+  pub overlap : IsOverlap (chars bytes) (chars bytes) (position bytes n)
+
 -- The first i characters of p end its first k, and none of the longer fronts that do so, up to the k
 -- themselves, goes on with c.
 pub record IsTried (p : List ℕ) (k c i : ℕ) : Type 0 where
   pub within : i ≤ k
   pub ends : Ends (take i p) (take k p)
   pub longer : (l : ℕ) → i < l → l ≤ k → Ends (take l p) (take k p) → GoesOn p l c → ⊥
+
+-- so many bytes of the needle stay matched where c follows those that were, and the needle goes on with c
+pub record Resumed (needle : List ℕ) (matched c kept : ℕ) : Type 0 where
+  pub within : kept ≤ matched
+  pub boundary : IsCharBoundary needle kept
+  pub tried : IsTried (chars needle) (position needle matched) c (position needle kept)
+  pub next : Next needle kept c

@@ -11,7 +11,7 @@ use Rattle.std.proofs.lemmas.Str.{chars-nil, chars-append, chars_past_char, enco
 use Rattle.std.proofs.Math.Seq.{take-add, take-append_seam, drop-append_seam}
 use Rattle.writeable_replace.specs.Overlap.{Ends, IsOverlap}
 use Rattle.writeable_replace.specs.OverlapLaws.{ends_length, ends_both, ends_shorter, ends_more, ends_less, ends_nothing, ends_whole, front_more}
-use Rattle.writeable_replace.specs.Position.{position, IsPosition, GoesOn, IsTried}
+use Rattle.writeable_replace.specs.Position.{position, IsPosition, GoesOn, IsTried, Next, Border}
 use lib.Utf8.{encode, encodes}
 
 -- ---- fronts
@@ -35,13 +35,6 @@ pub position_none : (bytes : List ℕ) → position bytes 0 ≡ 0
 position_none bytes = ap length chars-nil
 
 -- ---- the next character
-
--- The bytes behind a position begin with those of c: the text goes on with c, and the position behind
--- it is one character further.
-pub record Next (bytes : List ℕ) (n c : ℕ) : Type 0 where
-  pub goes_on : GoesOn (chars bytes) (position bytes n) c
-  pub boundary : IsCharBoundary bytes (n + len_utf8 c)
-  pub position : position bytes (n + len_utf8 c) ≡ suc (position bytes n)
 
 pub next_there : (bytes rest : List ℕ) (n c : ℕ) → IsUtf8 bytes → IsCharBoundary bytes n → drop n bytes ≡ encode c ++ rest → Next bytes n c
 next_there bytes rest n c utf8 at is =
@@ -103,11 +96,6 @@ pub record IsShift (bytes : List ℕ) (shift : ℕ) : Type 0 where
   pub front : starts_with nat_eq bytes (drop shift bytes) ≡ true
   pub first : (s : ℕ) → 1 ≤ s → s < shift → starts_with nat_eq bytes (drop s bytes) ≡ true → ⊥
 
--- what is behind that place is the longest front that ends the text, and a text
-pub record Border (bytes : List ℕ) (n : ℕ) : Type 0 where
-  pub boundary : IsCharBoundary bytes n
-  pub overlap : IsOverlap (chars bytes) (chars bytes) (position bytes n)
-
 shift_boundary : (bytes : List ℕ) (shift : ℕ) → IsUtf8 bytes → IsShift bytes shift → take (length bytes - shift) bytes ≡ drop shift bytes → IsCharBoundary bytes shift
 shift_boundary bytes shift utf8 is same = (is.within, λ less high. lead less high) where
   lead : shift < length bytes → 128 ≤ slice_index bytes shift → 192 ≤ slice_index bytes shift
@@ -118,7 +106,7 @@ shift_boundary bytes shift utf8 is same = (is.within, λ less high. lead less hi
       let start = IsCharBoundary-start bytes utf8 in
       subst (λ b. 192 ≤ b) first (start.1 (omega arith) (subst (λ b. 128 ≤ b) (sym first) high))
 
-some_chars : (cs : List ℕ) (n : ℕ) → length (encodes cs) ≡ n → 1 ≤ n → 1 ≤ length cs
+pub some_chars : (cs : List ℕ) (n : ℕ) → length (encodes cs) ≡ n → 1 ≤ n → 1 ≤ length cs
 some_chars [] n e some = absurd (omega arith)
 some_chars (c ∷ cs) n e some = omega arith
 

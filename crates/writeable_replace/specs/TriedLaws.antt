@@ -1,14 +1,18 @@
 -- How far a match goes back where the next character doesn't go on with it.
-use Rattle.std.specs.Prelude.{chars, IsUtf8, IsCharBoundary}
-use Rattle.std.proofs.Common.{◌≡◌, ℕ, ◌+◌, ◌-◌, ◌≤◌, ◌<◌, zero, suc, List, [], ◌∷◌, ◌++◌, length, take, drop, get_or, refl, sym, ap, ◌∙◌, subst, arith, append-nil, append_assoc, length-append, ◌⊎◌, inl, inr}
-use Rattle.std.proofs.lemmas.List.{length-take-le, take-take, take_all, drop_at}
+use Rattle.std.specs.Prelude.{chars, IsUtf8, IsCharBoundary, nat_eq}
+use Rattle.std.specs.Char.{len_utf8}
+use Rattle.std.specs.List.{starts_with}
+use Rattle.std.proofs.Common.{◌≡◌, ℕ, ◌+◌, ◌-◌, ◌≤◌, ◌<◌, zero, suc, true, false, List, [], ◌∷◌, ◌++◌, length, take, drop, get_or, refl, sym, ap, ◌∙◌, subst, arith, append-nil, append_assoc, length-append, ◌⊎◌, inl, inr}
+use Rattle.std.proofs.lemmas.List.{length-take-le, take-take, take_all, drop_at, length-drop}
 use Rattle.std.proofs.lemmas.Bool.{cases_order}
-use Rattle.std.proofs.lemmas.Str.{encodes-chars, encodes-append, IsUtf8-take, IsCharBoundary-from_take, IsCharBoundary-from_drop}
+use Rattle.std.proofs.lemmas.Str.{encodes-chars, encodes-append, IsUtf8-take, IsUtf8-drop, IsCharBoundary-start, IsCharBoundary-from_take, IsCharBoundary-from_drop}
+use Rattle.std.proofs.Math.Seq.{take-length}
 use Rattle.writeable_replace.specs.Overlap.{Ends, IsOverlap}
 use Rattle.writeable_replace.specs.OverlapLaws.{ends_nothing, ends_whole, ends_both, ends_length, ends_shorter, ends_more, ends_less, front_more}
-use Rattle.writeable_replace.specs.PassedLaws.{Step, whole, part}
-use Rattle.writeable_replace.specs.Position.{position, GoesOn, IsTried}
-use Rattle.writeable_replace.specs.PositionLaws.{cut_chars, front_chars}
+use Rattle.writeable_replace.specs.Passed.{so_far}
+use Rattle.writeable_replace.specs.PassedLaws.{Step, whole, part, Came, step_came}
+use Rattle.writeable_replace.specs.Position.{position, IsPosition, GoesOn, IsTried, Border, Next, Resumed}
+use Rattle.writeable_replace.specs.PositionLaws.{cut_chars, front_chars, position_none, next_bytes, some_chars}
 use lib.Utf8.{encode, encodes}
 
 -- all that was matched is tried first
@@ -134,3 +138,82 @@ released needle matched kept utf8 at at_kept le ends =
       parts = ap (λ s. chars s ++ take (position needle kept) p) (sym front) ∙ ap (λ s. chars (take n f) ++ s) (sym g_chars ∙ ap chars (sym rest))
           ∙ sym (cut_chars f n f_utf8 inner) ∙ f_chars;
     }
+
+-- ---- by bytes
+
+-- the needle doesn't go on: the longest front of what is matched still is tried next
+pub record BackedOff (needle : List ℕ) (matched c kept : ℕ) : Type 0 where
+  pub boundary : IsCharBoundary needle kept
+  pub tried : IsTried (chars needle) (position needle matched) c (position needle kept)
+
+pub back_off : (needle : List ℕ) (matched c kept n : ℕ) → IsUtf8 needle → IsPosition needle matched → IsCharBoundary needle kept
+    → IsTried (chars needle) (position needle matched) c (position needle kept) → starts_with nat_eq (drop kept needle) (encode c) ≡ false
+    → 1 ≤ kept → Border (take kept needle) n → n < kept → BackedOff needle matched c n
+back_off needle matched c kept n utf8 at at_kept tried fails some border less =
+    let p = chars needle in
+    let g = take kept needle in
+    let g_utf8 = IsUtf8-take needle kept utf8 at_kept in
+    let g_chars = front_chars needle kept utf8 at_kept in
+    let inner : take n g ≡ take n needle = take-take n kept needle (omega arith) in
+    let same : position g n ≡ position needle n = ap (λ s. length (chars s)) inner in
+    let boundary = IsCharBoundary-from_take needle n utf8 (omega (arith, at_kept.0)) (subst IsUtf8 inner (IsUtf8-take g n g_utf8 border.boundary)) in
+    let over : IsOverlap (take (position needle kept) p) (take (position needle kept) p) (position needle n) =
+      subst (λ s. IsOverlap s s (position needle n)) g_chars (subst (IsOverlap (chars g) (chars g)) same border.overlap) in
+    let one = some_chars (chars g) kept (ap length (encodes-chars g g_utf8) ∙ length-take-le kept needle at_kept.0) some in
+    record {
+      boundary = boundary;
+      tried = tried_next p (position needle matched) c (position needle kept) (position needle n) (omega (arith, at.proper)) tried
+          (λ on. let yes : true ≡ false = sym (next_bytes needle kept c utf8 at_kept on) ∙ fails in cc) one over;
+    }
+
+-- no byte is a position
+pub position_start : (needle : List ℕ) → IsUtf8 needle → IsPosition needle 0
+position_start needle utf8 = record {
+  boundary = IsCharBoundary-start needle utf8;
+  proper = omega (arith, position_none needle);
+}
+
+-- what a character comes to, where the needle goes on with it nowhere
+pub none_came : (needle r : List ℕ) (matched c : ℕ) → IsUtf8 needle → IsPosition needle matched → IsTried (chars needle) (position needle matched) c 0
+    → (GoesOn (chars needle) 0 c → ⊥) → Came (chars needle) r (so_far (chars needle) (position needle matched) (c ∷ [])) (position needle 0) (chars (take matched needle) ++ c ∷ [])
+none_came needle r matched c utf8 at tried fails =
+    let p = chars needle in
+    let k = position needle matched in
+    subst (λ s. Came p r (so_far p k (c ∷ [])) (position needle 0) (s ++ c ∷ [])) (sym (front_chars needle matched utf8 at.boundary))
+    (subst (λ j. Came p r (so_far p k (c ∷ [])) j (take k p ++ c ∷ [])) (sym (position_none needle)) (step_came p r (tried_none p r k c at.proper tried fails) at.proper))
+
+-- where it goes on, and isn't whole yet
+pub record Part (needle r : List ℕ) (matched c kept : ℕ) : Type 0 where
+  pub came : Came (chars needle) r (so_far (chars needle) (position needle matched) (c ∷ [])) (position needle (kept + len_utf8 c)) (chars (take (matched - kept) needle))
+  pub position : IsPosition needle (kept + len_utf8 c)
+  pub boundary : IsCharBoundary needle (matched - kept)
+
+pub part_came : (needle r : List ℕ) (matched c kept : ℕ) → IsUtf8 needle → IsPosition needle matched → Resumed needle matched c kept
+    → (kept + len_utf8 c ≡ length needle → ⊥) → Part needle r matched c kept
+part_came needle r matched c kept utf8 at resumed open_still =
+    let p = chars needle in
+    let k = position needle matched in
+    let end = kept + len_utf8 c in
+    let free = released needle matched kept utf8 at.boundary resumed.boundary resumed.within resumed.tried.ends in
+    let cut = cut_chars needle end utf8 resumed.next.boundary in
+    let rest_utf8 = IsUtf8-drop needle end utf8 resumed.next.boundary in
+    let some = some_chars (chars (drop end needle)) (length needle - end) (ap length (encodes-chars (drop end needle) rest_utf8) ∙ length-drop end needle)
+      (let within = resumed.next.boundary.0 in omega arith) in
+    let total : length p ≡ position needle end + length (chars (drop end needle)) = ap length cut ∙ length-append (chars (take end needle)) (chars (drop end needle)) in
+    let short : suc (position needle kept) < length p = omega (arith, resumed.next.position) in
+    let step = tried_part p r k c (position needle kept) (chars (take (matched - kept) needle)) at.proper resumed.tried resumed.next.goes_on short free.parts in
+    record {
+      came = subst (λ j. Came p r (so_far p k (c ∷ [])) j (chars (take (matched - kept) needle))) (sym resumed.next.position) (step_came p r step at.proper);
+      position = record { boundary = resumed.next.boundary; proper = omega (arith, resumed.next.position) };
+      boundary = free.boundary;
+    }
+
+-- and where the needle is whole
+pub whole_came : (needle r : List ℕ) (matched c kept : ℕ) → IsUtf8 needle → IsPosition needle matched → Resumed needle matched c kept
+    → kept + len_utf8 c ≡ length needle → Came (chars needle) r (so_far (chars needle) (position needle matched) (c ∷ [])) (position needle 0) r
+whole_came needle r matched c kept utf8 at resumed ends =
+    let p = chars needle in
+    let k = position needle matched in
+    let all : position needle (kept + len_utf8 c) ≡ length p = ap (λ n. length (chars n)) (ap (λ n. take n needle) ends ∙ take-length needle) in
+    let step = tried_whole p r k c (position needle kept) at.proper resumed.tried resumed.next.goes_on (omega (arith, resumed.next.position, all)) in
+    subst (λ j. Came p r (so_far p k (c ∷ [])) j r) (sym (position_none needle)) (step_came p r step at.proper)

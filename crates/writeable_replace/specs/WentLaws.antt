@@ -2,7 +2,7 @@
 use Rattle.std.specs.Prelude.{Result, Err, IsErrOf}
 use Rattle.std.proofs.Common.{◌≡◌, ℕ, ◌-◌, ◌≤◌, Bool, true, List, [], ◌∷◌, ◌++◌, length, take, Option, Some, None, refl, sym, ap, ◌∙◌, subst, arith, append_assoc}
 use Rattle.writeable_core.specs.Sink.{TookPrefix, HasCause, Rose}
-use Rattle.writeable_core.specs.SinkLaws.{front_of_longer, front_after, rose_earlier}
+use Rattle.writeable_core.specs.SinkLaws.{front_of_longer, front_after, rose_earlier, cause_earlier}
 use Rattle.writeable_core.specs.declared.sink.SinkError.{SinkError}
 use Rattle.writeable_replace.specs.Passed.{so_far, position_after, passed_on, Passed, Refused, Went}
 use Rattle.writeable_replace.specs.PassedLaws.{Both, both, Came, nothing_came}
@@ -26,6 +26,20 @@ refused_by {T} {took} p r {a} {b} t came front cause = record {
   fault = λ is. cause.fault (ap Err is);
   no_memory = λ is. cause.no_memory (ap Err is);
 }
+
+-- the sink behind refused in the first part of what is passed on
+pub refused_front : {S T : Type 0} {took : S → List ℕ → S → Type 0} {faults : S → ℕ} {memory : S → Bool} (p r : List ℕ) {k j : ℕ} {a b : S} (t x y : List ℕ) {e : SinkError}
+    → Came p r (so_far p k t) j (x ++ y) → TookPrefix took a x b → HasCause {T = T} (faults a) (faults b) (memory a) (Err e) → Refused took faults memory p r k a t e b
+refused_front p r t x y came front cause = refused_by p r t came (front_of_longer x y front) cause
+
+-- or in the second
+pub refused_behind : {S T : Type 0} {took : S → List ℕ → S → Type 0} {faults : S → ℕ} {memory : S → Bool} (p r : List ℕ) {k j : ℕ} {a b c : S} (t x y : List ℕ) {e : SinkError}
+    → ((a b c : S) (s t : List ℕ) → took a s b → took b t c → took a (s ++ t) c)
+    → ((a b : S) (t : List ℕ) → took a t b → faults a ≤ faults b) → ((a b : S) (t : List ℕ) → took a t b → memory b ≡ memory a)
+    → Came p r (so_far p k t) j (x ++ y) → took a x b → TookPrefix took b y c → HasCause {T = T} (faults b) (faults c) (memory b) (Err e)
+    → Refused took faults memory p r k a t e c
+refused_behind {faults} p r {a} {b} {c} t x y {e} join later same came first front cause =
+    refused_by p r t came (front_after x y join first front) (cause_earlier (Err e) (later a b x first) (same a b x first) cause)
 
 pub passed_nothing : {S : Type 0} {took : S → List ℕ → S → Type 0} (p r : List ℕ) {k : ℕ} {a : S} → k ≤ length p - 1 → took a [] a → Passed took p r k a [] k a
 passed_nothing p r {k} le nothing = passed_by p r [] (nothing_came p r k le) nothing
