@@ -1,4 +1,6 @@
 pub mod Along
+pub mod Hints
+pub mod HintLaws
 pub mod Overlap
 pub mod OverlapLaws
 pub mod Passed

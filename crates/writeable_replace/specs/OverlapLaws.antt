@@ -34,7 +34,7 @@ pub ends_shorter : {x y w : List ℕ} → Ends x w → Ends y w → length x ≤
 ends_shorter {x} {y} {w} p q le =
     let same : p.before ++ x ≡ q.before ++ y = p.parts ∙ sym q.parts in
     let within : length q.before ≤ length p.before =
-      omega (arith, ap length same, length-append p.before x, length-append q.before y) in
+    omega (arith, ap length same, length-append p.before x, length-append q.before y) in
     record {
       before = drop (length q.before) p.before;
       parts = sym (drop-append-le (length q.before) p.before x within) ∙ ap (drop (length q.before)) same ∙ drop-append_seam q.before y;
@@ -80,13 +80,13 @@ greatest_longest test zero i le passes = omega arith
 greatest_longest test (suc n) i le passes =
     cases (λ less. greatest_longest test n i less passes) (test (suc n)) refl (cases_lt n i)
   where
-  cases : (i ≤ n → i ≤ greatest test n) → (b : Bool) → test (suc n) ≡ b → (n < i) ⊎ (i ≤ n) → i ≤ greatest test (suc n)
-  cases before true is _ = omega (arith, greatest_here test n is)
-  cases before false is (inr less) = let within = before less in omega (arith, greatest_below test n is)
-  cases before false is (inl last) =
-      let same : i ≡ suc n = omega arith in
-      let e : true ≡ false = sym passes ∙ ap test same ∙ is in
-      absurd (cc)
+    cases : (i ≤ n → i ≤ greatest test n) → (b : Bool) → test (suc n) ≡ b → (n < i) ⊎ (i ≤ n) → i ≤ greatest test (suc n)
+    cases before true is _ = omega (arith, greatest_here test n is)
+    cases before false is (inr less) = let within = before less in omega (arith, greatest_below test n is)
+    cases before false is (inl last) =
+        let same : i ≡ suc n = omega arith in
+        let e : true ≡ false = sym passes ∙ ap test same ∙ is in
+        absurd (cc)
 
 ends_tested : (w part : List ℕ) → ends_with nat_eq w part ≡ true → Ends part w
 ends_tested w part e = record {
@@ -155,7 +155,7 @@ overlap_whole p w k c some was ends =
     let n = length p - 1 in
     let one : length p ≡ n + 1 = omega arith in
     let last : p ≡ take n p ++ get_or p n 0 ∷ [] =
-      sym (take-length p) ∙ ap (λ m. take m p) one ∙ take_more p n 0 (omega arith) in
+    sym (take-length p) ∙ ap (λ m. take m p) one ∙ take_more p n 0 (omega arith) in
     let less = ends_less (get_or p n 0) c (subst (λ l. Ends l (w ++ c ∷ [])) last ends) in
     let within = was.longest n (omega arith) less.0 in
     let same : k ≡ n = omega (arith, was.proper) in

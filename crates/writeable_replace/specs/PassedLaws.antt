@@ -16,7 +16,7 @@ use Rattle.writeable_replace.specs.Passed.{without_last, so_far, position_after,
 pub data Step (p r : List ℕ) (k c : ℕ) : ℕ → List ℕ → Type 0 where
   whole : take k p ++ c ∷ [] ≡ p → Step p r k c 0 r
   part : (j : ℕ) (o : List ℕ) → (take k p ++ c ∷ [] ≡ p → ⊥) → IsOverlap p (take k p ++ c ∷ []) j
-    → o ++ take j p ≡ take k p ++ c ∷ [] → Step p r k c j o
+      → o ++ take j p ≡ take k p ++ c ∷ [] → Step p r k c j o
 
 pub data Run (p r : List ℕ) : ℕ → List ℕ → ℕ → List ℕ → Type 0 where
   done : (k : ℕ) → Run p r k [] k []
@@ -45,11 +45,11 @@ reached p r (more k c t j l o q step run) u w parts none was zero le = absurd (o
 reached p r (more k c t j l o q (whole is) run) u w parts none was (suc n) le =
     let later = reached p r run [] [] refl refl (overlap_front p 0 (omega arith)) n (omega arith) in
     let ended : u ++ p ≡ w ++ c ∷ [] =
-      ap (λ l. u ++ l) (sym is) ∙ sym (append_assoc u (take k p) (c ∷ [])) ∙ ap (λ l. l ++ c ∷ []) parts in
+    ap (λ l. u ++ l) (sym is) ∙ sym (append_assoc u (take k p) (c ∷ [])) ∙ ap (λ l. l ++ c ∷ []) parts in
     let some : 1 ≤ length p = omega (arith, ap length is, length-append (take k p) (c ∷ [])) in
     let first = first_there p u w t c none some ended in
     let same : w ++ c ∷ t ≡ u ++ (p ++ t) =
-      sym (append_assoc w (c ∷ []) t) ∙ ap (λ l. l ++ t) (sym ended) ∙ append_assoc u p t in
+    sym (append_assoc w (c ∷ []) t) ∙ ap (λ l. l ++ t) (sym ended) ∙ append_assoc u p t in
     record {
       position = subst (λ s. IsOverlap p s l) (sym (ap (behind_times p (suc n)) same ∙ behind_first p u t n first)) later.position;
       text = ap (replaced_times p r (suc n)) same ∙ replaced_first p r u t n first
@@ -57,7 +57,7 @@ reached p r (more k c t j l o q (whole is) run) u w parts none was (suc n) le =
     }
 reached p r (more k c t j l o q (part _ _ other over parts_now) run) u w parts none was (suc n) le =
     let joined : (u ++ o) ++ take j p ≡ w ++ c ∷ [] =
-      append_assoc u o (take j p) ∙ ap (λ l. u ++ l) parts_now ∙ sym (append_assoc u (take k p) (c ∷ [])) ∙ ap (λ l. l ++ c ∷ []) parts in
+    append_assoc u o (take j p) ∙ ap (λ l. u ++ l) parts_now ∙ sym (append_assoc u (take k p) (c ∷ [])) ∙ ap (λ l. l ++ c ∷ []) parts in
     let later = reached p r run (u ++ o) (w ++ c ∷ []) joined (none_after p w k c none was other) (overlap_more p w k c j was over) (suc n) (omega arith) in
     let same : w ++ c ∷ t ≡ (w ++ c ∷ []) ++ t = sym (append_assoc w (c ∷ []) t) in
     record {
@@ -79,6 +79,7 @@ kept_back p x o i j same le is =
 pub record Came (p r s : List ℕ) (j : ℕ) (o : List ℕ) : Type 0 where
   pub position : position_after p s ≡ j
   pub text : passed_on p r s ≡ o
+  pub whole : replaced s p r ≡ o ++ take j p
   pub proper : j ≤ length p - 1
 
 pub run_came : (p r : List ℕ) {k : ℕ} {t : List ℕ} {j : ℕ} {o : List ℕ} → Run p r k t j o → k ≤ length p - 1 → Came p r (so_far p k t) j o
@@ -90,6 +91,7 @@ run_came p r {k} {t} {j} {o} run le =
     record {
       position = position;
       text = kept_back p (replaced (so_far p k t) p r) o (position_after p (so_far p k t)) j position (omega (arith, ends.position.proper)) ends.text;
+      whole = ends.text;
       proper = ends.position.proper;
     }
 
@@ -102,7 +104,7 @@ step_total p r k c = cases (bytes_eq (take k p ++ c ∷ []) p) refl where
   cases false is =
       let over = overlap_is p (take k p ++ c ∷ []) in
       let other : take k p ++ c ∷ [] ≡ p → ⊥ =
-        λ e. let yes : true ≡ false = sym ((bytes_eq-Decides (take k p ++ c ∷ []) p).1 e) ∙ is in cc in
+      λ e. let yes : true ≡ false = sym ((bytes_eq-Decides (take k p ++ c ∷ []) p).1 e) ∙ is in cc in
       (overlap p (take k p ++ c ∷ []), over.ends.before, part (overlap p (take k p ++ c ∷ [])) over.ends.before other over over.ends.parts)
 
 pub run_total : (p r : List ℕ) (k : ℕ) (t : List ℕ) → (j : ℕ) × (o : List ℕ) × Run p r k t j o
@@ -139,8 +141,20 @@ both p r s t =
 pub step_came : (p r : List ℕ) {k c j : ℕ} {o : List ℕ} → Step p r k c j o → k ≤ length p - 1 → Came p r (so_far p k (c ∷ [])) j o
 step_came p r {k} {c} {j} {o} step le =
     let came = run_came p r (more k c [] j j o [] step (done j)) le in
-    record { position = came.position; text = came.text ∙ append-nil o; proper = came.proper }
+    record {
+      position = came.position;
+      text = came.text ∙ append-nil o;
+      whole = came.whole ∙ ap (λ s. s ++ take j p) (append-nil o);
+      proper = came.proper;
+    }
 
 -- nothing
 pub nothing_came : (p r : List ℕ) (k : ℕ) → k ≤ length p - 1 → Came p r (so_far p k []) k []
 nothing_came p r k le = run_came p r (done k) le
+
+-- what is passed on of a text, and what was kept back, are the text replaced
+pub passed_whole : (p r s : List ℕ) → passed_on p r s ++ take (position_after p s) p ≡ replaced s p r
+passed_whole p r s =
+    let run = run_total p r 0 s in
+    let came = run_came p r run.2 (omega arith) in
+    ap (λ o. o ++ take (position_after p s) p) came.text ∙ ap (λ j. run.1 ++ take j p) came.position ∙ sym came.whole

@@ -19,7 +19,7 @@ abbrev pub replaced_times : List ℕ → List ℕ → ℕ → List ℕ → List 
 replaced_times p r zero s = s
 replaced_times p r (suc n) s =
     elim (first_at p s) [
-      None ↦ s
+      | None ↦ s
       | Some i ↦ take i s ++ (r ++ replaced_times p r n (drop (i + length p) s))
     ]
 

@@ -62,7 +62,7 @@ none_later p s c none = cases (first_at p s) refl where
   cases None is = is
   cases (Some i) is =
       let later : first_at p (c ∷ s) ≡ Some (i + 1) =
-        first_later p s c (none_front p s c none) ∙ ap (option_map (λ i. i + 1)) is in
+      first_later p s c (none_front p s c none) ∙ ap (option_map (λ i. i + 1)) is in
       absurd (cc (later, none))
 
 -- a text shorter than p has it nowhere
@@ -84,13 +84,14 @@ none_more p [] c none unended = cases (stands p (c ∷ [])) refl where
 none_more p (b ∷ w) c none unended =
     cases (none_more p w c (none_later p w b none) (λ e. unended (ends-behind b e))) (stands p (b ∷ (w ++ c ∷ []))) refl
   where
-  short : stands p (b ∷ (w ++ c ∷ [])) ≡ true → (length (b ∷ w) < length p) ⊎ (length p ≤ length (b ∷ w)) → ⊥
-  short is (inr le) =
-      let e : true ≡ false = sym is ∙ stands-append p (b ∷ w) (c ∷ []) le ∙ none_front p w b none in cc
-  short is (inl le) = unended (stands-whole p (b ∷ (w ++ c ∷ [])) is (omega (arith, length-append w (c ∷ []))))
-  cases : first_at p (w ++ c ∷ []) ≡ None → (v : Bool) → stands p (b ∷ (w ++ c ∷ [])) ≡ v → first_at p (b ∷ (w ++ c ∷ [])) ≡ None
-  cases later true is = absurd (short is (cases_lt (length (b ∷ w)) (length p)))
-  cases later false is = first_later p (w ++ c ∷ []) b is ∙ ap (option_map (λ i. i + 1)) later
+    short : stands p (b ∷ (w ++ c ∷ [])) ≡ true → (length (b ∷ w) < length p) ⊎ (length p ≤ length (b ∷ w)) → ⊥
+    short is (inr le) =
+        let e : true ≡ false = sym is ∙ stands-append p (b ∷ w) (c ∷ []) le ∙ none_front p w b none in cc
+    short is (inl le) = unended (stands-whole p (b ∷ (w ++ c ∷ [])) is (omega (arith, length-append w (c ∷ []))))
+
+    cases : first_at p (w ++ c ∷ []) ≡ None → (v : Bool) → stands p (b ∷ (w ++ c ∷ [])) ≡ v → first_at p (b ∷ (w ++ c ∷ [])) ≡ None
+    cases later true is = absurd (short is (cases_lt (length (b ∷ w)) (length p)))
+    cases later false is = first_later p (w ++ c ∷ []) b is ∙ ap (option_map (λ i. i + 1)) later
 
 -- one character more, and an occurrence ends there: it is the first
 pub first_there : (p u w s : List ℕ) (c : ℕ) → first_at p w ≡ None → 1 ≤ length p → u ++ p ≡ w ++ c ∷ []
@@ -102,9 +103,9 @@ first_there p (b ∷ u) (d ∷ w) s c none some e =
     let tail : u ++ p ≡ w ++ c ∷ [] = cc in
     let le : length p ≤ length (d ∷ w) = omega (arith, ap length tail, length-append u p, length-append w (c ∷ [])) in
     let same : b ∷ (u ++ (p ++ s)) ≡ (d ∷ w) ++ c ∷ s =
-      ap (λ l. b ∷ l) (sym (append_assoc u p s)) ∙ ap (λ l. l ++ s) e ∙ append_assoc (d ∷ w) (c ∷ []) s in
+    ap (λ l. b ∷ l) (sym (append_assoc u p s)) ∙ ap (λ l. l ++ s) e ∙ append_assoc (d ∷ w) (c ∷ []) s in
     let front : stands p (b ∷ (u ++ (p ++ s))) ≡ false =
-      ap (stands p) same ∙ stands-append p (d ∷ w) (c ∷ s) le ∙ none_front p w d none in
+    ap (stands p) same ∙ stands-append p (d ∷ w) (c ∷ s) le ∙ none_front p w d none in
     first_later p (u ++ (p ++ s)) b front
     ∙ ap (option_map (λ i. i + 1)) (first_there p u w s c (none_later p w d none) some tail)
     ∙ ap Some (omega arith)
@@ -126,6 +127,33 @@ pub behind_none : (p s : List ℕ) (n : ℕ) → first_at p s ≡ None → behin
 behind_none p s zero none = refl
 behind_none p s (suc n) none =
     ap (λ o. elim o as (λ (_ : Option ℕ). List ℕ) [ None ↦ s | Some i ↦ behind_times p n (drop (i + length p) s) ]) none
+
+-- the text before the first occurrence, the occurrence, and what is behind it
+pub first_parts : (p s : List ℕ) (i : ℕ) → first_at p s ≡ Some i → s ≡ take i s ++ (p ++ drop (i + length p) s)
+first_parts p [] i first = absurd (cc)
+first_parts p (c ∷ s) i first = cases (λ j later. first_parts p s j later) (stands p (c ∷ s)) refl (first_at p s) refl where
+  cases : ((j : ℕ) → first_at p s ≡ Some j → s ≡ take j s ++ (p ++ drop (j + length p) s)) → (b : Bool) → stands p (c ∷ s) ≡ b
+      → (o : Option ℕ) → first_at p s ≡ o → c ∷ s ≡ take i (c ∷ s) ++ (p ++ drop (i + length p) (c ∷ s))
+  cases later true is o rest =
+      let front : first_at p (c ∷ s) ≡ Some 0 = first_front p s c is in
+      let zero : 0 ≡ i = cc (front, first) in
+      subst (λ i. c ∷ s ≡ take i (c ∷ s) ++ (p ++ drop (i + length p) (c ∷ s))) zero
+      ((stands-there p (c ∷ s) is).0 ∙ ap (λ n. p ++ drop n (c ∷ s)) (omega arith))
+  cases later false is None rest =
+      let none : first_at p (c ∷ s) ≡ None = first_later p s c is ∙ ap (option_map (λ i. i + 1)) rest in
+      absurd (cc (none, first))
+  cases later false is (Some j) rest =
+      let some : first_at p (c ∷ s) ≡ Some (j + 1) = first_later p s c is ∙ ap (option_map (λ i. i + 1)) rest in
+      let plus : j + 1 ≡ i = cc (some, first) in
+      let next : suc j ≡ i = omega arith in
+      let past : suc (j + length p) ≡ suc j + length p = omega arith in
+      subst (λ i. c ∷ s ≡ take i (c ∷ s) ++ (p ++ drop (i + length p) (c ∷ s))) next
+      (ap (λ l. c ∷ l) (later j rest) ∙ ap (λ n. c ∷ (take j s ++ (p ++ drop n (c ∷ s)))) past)
+
+pub replaced_at : (p r s : List ℕ) (n i : ℕ) → first_at p s ≡ Some i
+    → replaced_times p r (suc n) s ≡ take i s ++ (r ++ replaced_times p r n (drop (i + length p) s))
+replaced_at p r s n i first =
+    ap (λ o. elim o as (λ (_ : Option ℕ). List ℕ) [ None ↦ s | Some i ↦ take i s ++ (r ++ replaced_times p r n (drop (i + length p) s)) ]) first
 
 -- the first occurrence, and what is behind it
 pub replaced_first : (p r u t : List ℕ) (n : ℕ) → first_at p (u ++ (p ++ t)) ≡ Some (length u)

@@ -35,16 +35,16 @@ tried_next p k c i j le tried fails some over =
       longer = λ l less within ends on. longer l less within ends on (cases_order l i);
     }
   where
-  longer : (l : ℕ) → j < l → l ≤ k → Ends (take l p) (take k p) → GoesOn p l c → (l ≡ i) ⊎ ((l < i) ⊎ (i < l)) → ⊥
-  longer l less within ends on (inl same) = fails (subst (λ n. GoesOn p n c) same on)
-  longer l less within ends on (inr (inr more)) = tried.longer l more within ends on
-  longer l less within ends on (inr (inl shorter)) =
-      let len = length-take-le i p (omega (arith, tried.within)) in
-      let short = length-take-le l p (omega arith) in
-      let inner = ends_shorter ends tried.ends (omega arith) in
-      let own : Ends (take l (take i p)) (take i p) = subst (λ s. Ends s (take i p)) (sym (take-take l i p (omega arith))) inner in
-      let bound = over.longest l (omega arith) own in
-      omega arith
+    longer : (l : ℕ) → j < l → l ≤ k → Ends (take l p) (take k p) → GoesOn p l c → (l ≡ i) ⊎ ((l < i) ⊎ (i < l)) → ⊥
+    longer l less within ends on (inl same) = fails (subst (λ n. GoesOn p n c) same on)
+    longer l less within ends on (inr (inr more)) = tried.longer l more within ends on
+    longer l less within ends on (inr (inl shorter)) =
+        let len = length-take-le i p (omega (arith, tried.within)) in
+        let short = length-take-le l p (omega arith) in
+        let inner = ends_shorter ends tried.ends (omega arith) in
+        let own : Ends (take l (take i p)) (take i p) = subst (λ s. Ends s (take i p)) (sym (take-take l i p (omega arith))) inner in
+        let bound = over.longest l (omega arith) own in
+        omega arith
 
 -- a front that ends a text and a character is a front that ends the text and goes on with the character
 ends_on : (p w : List ℕ) (l c : ℕ) → suc l ≤ length p → Ends (take (suc l) p) (w ++ c ∷ []) → Ends (take l p) w × GoesOn p l c
@@ -67,15 +67,16 @@ tried_none p r k c le tried fails =
     (record { proper = omega arith; ends = ends_nothing (take k p ++ c ∷ []); longest = longest })
     (append-nil (take k p ++ c ∷ []))
   where
-  never : (l : ℕ) → l ≤ k → Ends (take l p) (take k p) → GoesOn p l c → ⊥
-  never zero within ends on = fails on
-  never (suc l) within ends on = tried.longer (suc l) (omega arith) within ends on
-  longest : (m : ℕ) → m ≤ length p - 1 → Ends (take m p) (take k p ++ c ∷ []) → m ≤ 0
-  longest zero within ends = omega arith
-  longest (suc l) within ends =
-      let on = ends_on p (take k p) l c (omega arith) ends in
-      let short : l ≤ k = omega (arith, ends_length on.0, length-take-le l p (omega arith), length-take-le k p (omega arith)) in
-      absurd (never l short on.0 on.1)
+    never : (l : ℕ) → l ≤ k → Ends (take l p) (take k p) → GoesOn p l c → ⊥
+    never zero within ends on = fails on
+    never (suc l) within ends on = tried.longer (suc l) (omega arith) within ends on
+
+    longest : (m : ℕ) → m ≤ length p - 1 → Ends (take m p) (take k p ++ c ∷ []) → m ≤ 0
+    longest zero within ends = omega arith
+    longest (suc l) within ends =
+        let on = ends_on p (take k p) l c (omega arith) ends in
+        let short : l ≤ k = omega (arith, ends_length on.0, length-take-le l p (omega arith), length-take-le k p (omega arith)) in
+        absurd (never l short on.0 on.1)
 
 -- a front goes on, and isn't p yet
 pub tried_part : (p r : List ℕ) (k c i : ℕ) (o : List ℕ) → k ≤ length p - 1 → IsTried p k c i → GoesOn p i c → suc i < length p
@@ -90,16 +91,17 @@ tried_part p r k c i o le tried on short parts =
     })
     (ap (λ s. o ++ s) on ∙ sym (append_assoc o (take i p) (c ∷ [])) ∙ ap (λ s. s ++ c ∷ []) parts)
   where
-  bound : (l : ℕ) → l ≤ k → Ends (take l p) (take k p) → GoesOn p l c → (l ≡ i) ⊎ ((l < i) ⊎ (i < l)) → suc l ≤ suc i
-  bound l within ends further (inl same) = omega arith
-  bound l within ends further (inr (inl less)) = omega arith
-  bound l within ends further (inr (inr more)) = absurd (tried.longer l more within ends further)
-  longest : (m : ℕ) → m ≤ length p - 1 → Ends (take m p) (take k p ++ c ∷ []) → m ≤ suc i
-  longest zero within ends = omega arith
-  longest (suc l) within ends =
-      let further = ends_on p (take k p) l c (omega arith) ends in
-      let within : l ≤ k = omega (arith, ends_length further.0, length-take-le l p (omega arith), length-take-le k p (omega arith)) in
-      bound l within further.0 further.1 (cases_order l i)
+    bound : (l : ℕ) → l ≤ k → Ends (take l p) (take k p) → GoesOn p l c → (l ≡ i) ⊎ ((l < i) ⊎ (i < l)) → suc l ≤ suc i
+    bound l within ends further (inl same) = omega arith
+    bound l within ends further (inr (inl less)) = omega arith
+    bound l within ends further (inr (inr more)) = absurd (tried.longer l more within ends further)
+
+    longest : (m : ℕ) → m ≤ length p - 1 → Ends (take m p) (take k p ++ c ∷ []) → m ≤ suc i
+    longest zero within ends = omega arith
+    longest (suc l) within ends =
+        let further = ends_on p (take k p) l c (omega arith) ends in
+        let within : l ≤ k = omega (arith, ends_length further.0, length-take-le l p (omega arith), length-take-le k p (omega arith)) in
+        bound l within further.0 further.1 (cases_order l i)
 
 -- p is whole
 pub tried_whole : (p r : List ℕ) (k c i : ℕ) → k ≤ length p - 1 → IsTried p k c i → GoesOn p i c → length p ≤ suc i → Step p r k c 0 r
@@ -125,10 +127,10 @@ released needle matched kept utf8 at at_kept le ends =
     let f_chars = front_chars needle matched utf8 at in
     let g_chars = front_chars needle kept utf8 at_kept in
     let f_bytes : f ≡ encodes ends.before ++ g =
-      sym (encodes-chars f f_utf8) ∙ ap encodes (f_chars ∙ sym ends.parts) ∙ encodes-append ends.before (take (position needle kept) p)
-      ∙ ap (λ s. encodes ends.before ++ s) (ap encodes (sym g_chars) ∙ encodes-chars g g_utf8) in
+    sym (encodes-chars f f_utf8) ∙ ap encodes (f_chars ∙ sym ends.parts) ∙ encodes-append ends.before (take (position needle kept) p)
+    ∙ ap (λ s. encodes ends.before ++ s) (ap encodes (sym g_chars) ∙ encodes-chars g g_utf8) in
     let len : length (encodes ends.before) ≡ n =
-      omega (arith, ap length f_bytes, length-append (encodes ends.before) g, length-take-le matched needle at.0, length-take-le kept needle at_kept.0) in
+    omega (arith, ap length f_bytes, length-append (encodes ends.before) g, length-take-le matched needle at.0, length-take-le kept needle at_kept.0) in
     let rest : drop n f ≡ g = ap (drop n) f_bytes ∙ drop_at (encodes ends.before) g n len in
     let inner = IsCharBoundary-from_drop f n (omega (arith, length-take-le matched needle at.0)) (subst IsUtf8 (sym rest) g_utf8) in
     let front : take n f ≡ take n needle = take-take n matched needle (omega arith) in
@@ -158,7 +160,7 @@ back_off needle matched c kept n utf8 at at_kept tried fails some border less =
     let same : position g n ≡ position needle n = ap (λ s. length (chars s)) inner in
     let boundary = IsCharBoundary-from_take needle n utf8 (omega (arith, at_kept.0)) (subst IsUtf8 inner (IsUtf8-take g n g_utf8 border.boundary)) in
     let over : IsOverlap (take (position needle kept) p) (take (position needle kept) p) (position needle n) =
-      subst (λ s. IsOverlap s s (position needle n)) g_chars (subst (IsOverlap (chars g) (chars g)) same border.overlap) in
+    subst (λ s. IsOverlap s s (position needle n)) g_chars (subst (IsOverlap (chars g) (chars g)) same border.overlap) in
     let one = some_chars (chars g) kept (ap length (encodes-chars g g_utf8) ∙ length-take-le kept needle at_kept.0) some in
     record {
       boundary = boundary;
@@ -198,7 +200,7 @@ part_came needle r matched c kept utf8 at resumed open_still =
     let cut = cut_chars needle end utf8 resumed.next.boundary in
     let rest_utf8 = IsUtf8-drop needle end utf8 resumed.next.boundary in
     let some = some_chars (chars (drop end needle)) (length needle - end) (ap length (encodes-chars (drop end needle) rest_utf8) ∙ length-drop end needle)
-      (let within = resumed.next.boundary.0 in omega arith) in
+    (let within = resumed.next.boundary.0 in omega arith) in
     let total : length p ≡ position needle end + length (chars (drop end needle)) = ap length cut ∙ length-append (chars (take end needle)) (chars (drop end needle)) in
     let short : suc (position needle kept) < length p = omega (arith, resumed.next.position) in
     let step = tried_part p r k c (position needle kept) (chars (take (matched - kept) needle)) at.proper resumed.tried resumed.next.goes_on short free.parts in

@@ -1,11 +1,13 @@
 -- Texts that a sink takes one after another, and what it passes on of them.
-use Rattle.std.specs.Prelude.{Result, Err, IsErrOf}
-use Rattle.std.proofs.Common.{◌≡◌, ℕ, ◌-◌, ◌≤◌, Bool, true, List, [], ◌∷◌, ◌++◌, length, take, Option, Some, None, refl, sym, ap, ◌∙◌, subst, arith, append_assoc}
+use Rattle.std.specs.Prelude.{Result, Ok, Err, IsErrOf, IsOk, OnOk}
+use Rattle.std.proofs.Common.{◌≡◌, ℕ, ◌-◌, ◌≤◌, Bool, true, false, List, [], ◌∷◌, ◌++◌, length, take, Option, Some, None, refl, sym, ap, ◌∙◌, subst, arith, append_assoc}
 use Rattle.writeable_core.specs.Sink.{TookPrefix, HasCause, Rose}
 use Rattle.writeable_core.specs.SinkLaws.{front_of_longer, front_after, rose_earlier, cause_earlier}
 use Rattle.writeable_core.specs.declared.sink.SinkError.{SinkError}
+use Rattle.writeable_core.specs.declared.sink.SinkError.TheVariants.{Fault, NoMemory}
+use Rattle.writeable_replace.specs.Replaced.{replaced}
 use Rattle.writeable_replace.specs.Passed.{so_far, position_after, passed_on, Passed, Refused, Went}
-use Rattle.writeable_replace.specs.PassedLaws.{Both, both, Came, nothing_came}
+use Rattle.writeable_replace.specs.PassedLaws.{Both, both, Came, nothing_came, passed_whole}
 
 -- what follows the text so far
 so_far_both : (p : List ℕ) (k : ℕ) (s t : List ℕ) → so_far p k (s ++ t) ≡ so_far p k s ++ t
@@ -104,3 +106,67 @@ went_both took faults memory p r k j l a b c s t None (Some f) (Some g) join lat
     (subst (λ d. Refused took faults memory p r k a (s ++ t) f d) (sym last.1) (refused_longer p r s t first))
 went_both took faults memory p r k j l a b c s t (Some e) None g join later same first last = absurd (let e = first.0 in cc)
 went_both took faults memory p r k j l a b c s t (Some e) (Some f) g join later same first last = (last.0 ∙ first.0, last.1 ∙ first.1)
+
+-- the same, where needle and replacement stayed
+pub went_on : {S : Type 0} (took : S → List ℕ → S → Type 0) (faults : S → ℕ) (memory : S → Bool) (p q r u : List ℕ) (k j l : ℕ) (a b c : S) (s t : List ℕ) (e f g : Option SinkError)
+    → ((a b c : S) (s t : List ℕ) → took a s b → took b t c → took a (s ++ t) c)
+    → ((a b : S) (t : List ℕ) → took a t b → faults a ≤ faults b) → ((a b : S) (t : List ℕ) → took a t b → memory b ≡ memory a)
+    → q ≡ p → u ≡ r → Went took faults memory p r k a s j b e f → Went took faults memory q u j b t l c f g → Went took faults memory p r k a (s ++ t) l c e g
+went_on took faults memory p q r u k j l a b c s t e f g join later same needle replacement first last =
+    went_both took faults memory p r k j l a b c s t e f g join later same first
+    (subst (λ p. Went took faults memory p r j b t l c f g) needle (subst (λ r. Went took faults memory q r j b t l c f g) replacement last))
+
+-- ---- at the end of the text
+
+-- all was passed on, and then what was kept back
+pub ended_ok : {S : Type 0} {took : S → List ℕ → S → Type 0} (p r t : List ℕ) {k j : ℕ} {a b c : S}
+    → ((a b c : S) (s t : List ℕ) → took a s b → took b t c → took a (s ++ t) c) → k ≡ 0
+    → Passed took p r k a t j b → took b (take j p) c → took a (replaced t p r) c
+ended_ok {took} p r t {k} {j} {a} {b} {c} join zero passed last =
+    let start : so_far p k t ≡ t = ap (λ k. so_far p k t) zero in
+    subst (λ o. took a o c)
+    (ap (λ i. passed_on p r (so_far p k t) ++ take i p) passed.position ∙ passed_whole p r (so_far p k t) ∙ ap (λ s. replaced s p r) start)
+    (join a b c (passed_on p r (so_far p k t)) (take j p) passed.taken last)
+
+-- all was passed on, and a front of what was kept back
+pub ended_front : {S : Type 0} {took : S → List ℕ → S → Type 0} (p r t : List ℕ) {k j : ℕ} {a b c : S}
+    → ((a b c : S) (s t : List ℕ) → took a s b → took b t c → took a (s ++ t) c) → k ≡ 0
+    → Passed took p r k a t j b → TookPrefix took b (take j p) c → TookPrefix took a (replaced t p r) c
+ended_front {took} p r t {k} {j} {a} {b} {c} join zero passed last =
+    let start : so_far p k t ≡ t = ap (λ k. so_far p k t) zero in
+    subst (λ o. TookPrefix took a o c)
+    (ap (λ i. passed_on p r (so_far p k t) ++ take i p) passed.position ∙ passed_whole p r (so_far p k t) ∙ ap (λ s. replaced s p r) start)
+    (front_after (passed_on p r (so_far p k t)) (take j p) join passed.taken last)
+
+-- the sink behind refused before
+pub ended_refused : {S : Type 0} {took : S → List ℕ → S → Type 0} {faults : S → ℕ} {memory : S → Bool} (p r t : List ℕ) {k : ℕ} {a b : S} {e : SinkError}
+    → k ≡ 0 → Refused took faults memory p r k a t e b → TookPrefix took a (replaced t p r) b
+ended_refused {took} p r t {k} {a} {b} zero refused =
+    let start : so_far p k t ≡ t = ap (λ k. so_far p k t) zero in
+    subst (λ o. TookPrefix took a o b) (passed_whole p r (so_far p k t) ∙ ap (λ s. replaced s p r) start)
+    (front_of_longer (passed_on p r (so_far p k t)) (take (position_after p (so_far p k t)) p) refused.front)
+
+pub refused_cause : {S T : Type 0} {took : S → List ℕ → S → Type 0} {faults : S → ℕ} {memory : S → Bool} (p r t : List ℕ) {k : ℕ} {a b : S} {e : SinkError}
+    → Refused took faults memory p r k a t e b → HasCause {T = T} (faults a) (faults b) (memory a) (Err e)
+refused_cause p r t refused = record {
+  fault = λ is. refused.fault (cc);
+  no_memory = λ is. refused.no_memory (cc);
+}
+
+-- a sink that counts no fault and takes no memory has no error
+pub never_refuses : {T : Type 0} (x : Result T SinkError) → HasCause 0 0 false x → IsOk x
+never_refuses (Ok x) cause = refl
+never_refuses (Err Fault) cause = absurd (let rose = cause.fault refl in omega arith)
+never_refuses (Err NoMemory) cause = absurd (let no = cause.no_memory refl in cc)
+
+-- what an Ok took
+pub taken_on_ok : {T P : Type 0} (x : Result T SinkError) → IsOk x → OnOk x P → P
+taken_on_ok (Ok x) is p = p
+taken_on_ok (Err e) is p = absurd (cc)
+
+-- where the sink takes no memory and its count of faults didn't rise, there is no error
+pub ok_without_faults : {T : Type 0} (before now : ℕ) (memory : Bool) (x : Result T SinkError) → HasCause before now memory x
+    → memory ≡ false → (Rose before now → ⊥) → IsOk x
+ok_without_faults before now memory (Ok x) cause none calm = refl
+ok_without_faults before now memory (Err Fault) cause none calm = absurd (calm (cause.fault refl))
+ok_without_faults before now memory (Err NoMemory) cause none calm = absurd (let e = cause.no_memory refl in cc)

@@ -9,9 +9,16 @@
 //! assert_eq!(text.write_to_string(alloc)?.as_str(), "44 22 1441");
 //! ```
 //!
-//! - `matching`: how far an occurrence that has begun is matched, from one character to the next.
+//! - `replace`: [`Replace`], a value that writes its text so, and [`write_replaced`].
 //! - `replacing`: the sink that a source writes to, over the sink that takes its text replaced.
-//! - `replace`: [`Replace`] and [`write_replaced`].
+//! - `matching`: how much of an occurrence is matched, from one character to the next.
+//! - `hints`: [`replaced_hint`], the hint of such a text.
 #![tactic(auto)]
 
+mod hints;
 mod matching;
+mod replace;
+mod replacing;
+
+pub use hints::replaced_hint;
+pub use replace::{Replace, write_replaced};

@@ -1,6 +1,6 @@
 //! How far a needle is matched, from one character of the text to the next.
 
-ghost use Rattle.std.specs.Prelude.{◌≡◌, ℕ, ◌<◌, ◌≤◌, zero, List, [], ◌∷◌, length, chars, IfOk, IfErr, MatchOption, OnOk, OnErr, take, IsCharBoundary};
+ghost use Rattle.std.specs.Prelude.{◌≡◌, ℕ, ◌<◌, ◌≤◌, zero, List, [], ◌∷◌, length, chars, IfOk, IfErr, MatchOption, OnOk, OnErr, take, IsCharBoundary, IsUtf8};
 ghost use Rattle.writeable_core.specs.Sink.{TookPrefix, HasCause};
 ghost use Rattle.writeable_replace.specs.Passed.{Passed, Refused};
 ghost use Rattle.writeable_replace.specs.Position.{position, IsPosition, IsTried, GoesOn, Border, Resumed};
@@ -43,7 +43,7 @@ fn resume(needle: &str, matched: usize, c: char) -> Option<usize>
 }
 
 /// Passes on the first `count` bytes of the needle.
-fn pass_front<S: Sink>(needle: &str, count: usize, sink: &mut S) -> Result<(), SinkError>
+pub(crate) fn pass_front<S: Sink>(needle: &str, count: usize, sink: &mut S) -> Result<(), SinkError>
     requires { IsCharBoundary needle.now count }
     ensures ok { OnOk result (S.took sink.old (chars (take count needle.now)) sink.new) }
     ensures err { OnErr result (TookPrefix S.took sink.old (chars (take count needle.now)) sink.new) }
@@ -89,7 +89,7 @@ pub(crate) fn take_char<C: Writeable, S: Sink>(
 
 /// The first character of a text, and what is behind it.
 fn split_first(text: &str) -> Option<(char, &str)>
-    ensures { MatchOption result (chars text.now ≡ []) (λ x. (chars text.now ≡ x.0 ∷ chars x.1.now) × (length x.1.now < length text.now)) }
+    ensures { MatchOption result (chars text.now ≡ []) (λ x. (chars text.now ≡ x.0 ∷ chars x.1.now) × (length x.1.now < length text.now) × IsUtf8 x.1.now) }
 {
     let mut all = text.chars();
     let c = all.next()?;

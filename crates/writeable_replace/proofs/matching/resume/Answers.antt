@@ -23,14 +23,13 @@ returns-then-kept-eq0 c =
     let needle = c.args.needle.now in
     let next = c.as_bytes-next.ensures.value ∙ c.encode_utf8.ensures.value in
     let zero : position needle c.loop-next.kept ≡ 0 = subst (λ n. position needle n ≡ 0) (sym c.if-kept-eq0.true) (position_none needle) in
-    let fails = tested c.loop-next.kept c.as_bytes.ensures.value next c.starts_with.ensures.value c.if-starts_with.false in
-    (
+    let fails = tested c.loop-next.kept c.as_bytes.ensures.value next c.starts_with.ensures.value c.if-starts_with.false in (
       subst (IsTried (chars needle) (position needle c.args.matched) c.args.c) zero c.loop-next.invariant.tried,
       λ on.
-        let there = next_bytes needle c.loop-next.kept c.args.c c.utf8.needle c.loop-next.invariant.boundary
+          let there = next_bytes needle c.loop-next.kept c.args.c c.utf8.needle c.loop-next.invariant.boundary
           (subst (λ i. GoesOn (chars needle) i c.args.c) (sym zero) on) in
-        let no : true ≡ false = sym there ∙ fails in
-        cc,
+          let no : true ≡ false = sym there ∙ fails in
+          cc,
     )
 
 pub loop-next-preserved : goal.loop-next-preserved
@@ -43,9 +42,9 @@ loop-next-preserved c =
     let some : 1 ≤ kept = omega arith in
     let border = subst (λ text. Border text c.overlap_of-kept.result) front c.overlap_of-kept.ensures.border in
     let shorter : c.overlap_of-kept.result < kept =
-      omega (arith, c.overlap_of-kept.ensures.shorter, ap length front, length-take-le kept needle c.loop-next.invariant.boundary.0) in
+    omega (arith, c.overlap_of-kept.ensures.shorter, ap length front, length-take-le kept needle c.loop-next.invariant.boundary.0) in
     let back = back_off needle c.args.matched c.args.c kept c.overlap_of-kept.result c.utf8.needle c.requires
-      c.loop-next.invariant.boundary c.loop-next.invariant.tried fails some border shorter in
+    c.loop-next.invariant.boundary c.loop-next.invariant.tried fails some border shorter in
     record {
       within = omega (arith, c.loop-next.invariant.within);
       boundary = back.boundary;

@@ -58,14 +58,14 @@ pub pass_front-requires-in-Some : goal.pass_front-requires-in-Some
 pass_front-requires-in-Some g c =
     let r = g.C.Writeable.text c.args.replacement.now in
     let part = part_came c.args.needle.now r c.args.matched c.args.c c.in-Some.kept c.utf8.needle c.requires c.in-Some.ensures
-      (λ e. c.if-end-needle.false (ap (λ n. c.in-Some.kept + n) c.len_utf8.ensures.value ∙ e)) in
+    (λ e. c.if-end-needle.false (ap (λ n. c.in-Some.kept + n) c.len_utf8.ensures.value ∙ e)) in
     part.boundary
 
 pub returns-in_err-pass_front-in-Some-clause-err : goal.returns-in_err-pass_front-in-Some-clause-err
 returns-in_err-pass_front-in-Some-clause-err g c =
     let r = g.C.Writeable.text c.args.replacement.now in
     let part = part_came c.args.needle.now r c.args.matched c.args.c c.in-Some.kept c.utf8.needle c.requires c.in-Some.ensures
-      (λ e. c.if-end-needle.false (ap (λ n. c.in-Some.kept + n) c.len_utf8.ensures.value ∙ e)) in
+    (λ e. c.if-end-needle.false (ap (λ n. c.in-Some.kept + n) c.len_utf8.ensures.value ∙ e)) in
     let e = err_from_is_err_and c.from_residual-in_err-pass_front-in-Some.result c.from_residual-in_err-pass_front-in-Some.ensures.1 in
     rw (e.1, e.2)
     (refused_by (chars c.args.needle.now) r (c.args.c ∷ []) part.came
@@ -85,13 +85,13 @@ pub returns-in_ok-pass_front-in-Some-clause-matched : goal.returns-in_ok-pass_fr
 returns-in_ok-pass_front-in-Some-clause-matched g c =
     let r = g.C.Writeable.text c.args.replacement.now in
     let part = part_came c.args.needle.now r c.args.matched c.args.c c.in-Some.kept c.utf8.needle c.requires c.in-Some.ensures
-      (λ e. c.if-end-needle.false (ap (λ n. c.in-Some.kept + n) c.len_utf8.ensures.value ∙ e)) in
+    (λ e. c.if-end-needle.false (ap (λ n. c.in-Some.kept + n) c.len_utf8.ensures.value ∙ e)) in
     subst (λ n. IsPosition c.args.needle.now (c.in-Some.kept + n)) (sym c.len_utf8.ensures.value) part.position
 
 pub returns-in_ok-pass_front-in-Some-clause-ok : goal.returns-in_ok-pass_front-in-Some-clause-ok
 returns-in_ok-pass_front-in-Some-clause-ok g c =
     let r = g.C.Writeable.text c.args.replacement.now in
     let part = part_came c.args.needle.now r c.args.matched c.args.c c.in-Some.kept c.utf8.needle c.requires c.in-Some.ensures
-      (λ e. c.if-end-needle.false (ap (λ n. c.in-Some.kept + n) c.len_utf8.ensures.value ∙ e)) in
+    (λ e. c.if-end-needle.false (ap (λ n. c.in-Some.kept + n) c.len_utf8.ensures.value ∙ e)) in
     let done = passed_by (chars c.args.needle.now) r (c.args.c ∷ []) part.came c.in_ok-pass_front-in-Some.ensures.ok in
     rw c.len_utf8.ensures.value done
