@@ -1,6 +1,6 @@
 pub mod Along
-pub mod Hints
-pub mod HintLaws
+pub mod AlongLaws
+pub mod FreeLaws
 pub mod Overlap
 pub mod OverlapLaws
 pub mod Passed
@@ -8,6 +8,8 @@ pub mod PassedLaws
 pub mod Position
 pub mod PositionLaws
 pub mod Replaced
+pub mod ReplacedHint
+pub mod ReplacedHintLaws
 pub mod ReplacedLaws
 pub mod TriedLaws
 pub mod WentLaws

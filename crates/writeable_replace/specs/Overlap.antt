@@ -1,5 +1,5 @@
 -- The front of a text that ends another text: where a match that is open may go on.
-use Rattle.std.specs.Prelude.{◌≡◌, ℕ, ◌+◌, ◌-◌, ◌≤◌, zero, suc, Bool, if◌then◌else◌, List, ◌++◌, length, take, nat_eq}
+use Rattle.std.specs.Prelude.{◌≡◌, ℕ, ◌-◌, ◌≤◌, zero, suc, Bool, if◌then◌else◌, List, ◌++◌, length, take, nat_eq}
 use Rattle.std.specs.List.{ends_with}
 
 -- a text ends with a part

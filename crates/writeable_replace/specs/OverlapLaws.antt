@@ -2,7 +2,7 @@
 use Rattle.std.specs.Prelude.{nat_eq}
 use Rattle.std.specs.List.{ends_with}
 use Rattle.std.proofs.Common.{◌≡◌, ℕ, ◌+◌, ◌-◌, ◌≤◌, ◌<◌, zero, suc, Bool, true, false, List, [], ◌∷◌, ◌++◌, length, take, drop, get_or, if◌then◌else◌, refl, sym, ap, ◌∙◌, subst, arith, append-nil, append_assoc, length-append, ◌⊎◌, inl, inr}
-use Rattle.std.proofs.lemmas.List.{drop-append-le, length-take-le, take_more, same_from_push, length_push}
+use Rattle.std.proofs.lemmas.List.{drop-append-le, length-take-le, take_more, same_from_push}
 use Rattle.std.proofs.lemmas.Slice.Eq.{ends_is}
 use Rattle.std.proofs.lemmas.Bool.{cases_lt}
 use Rattle.std.proofs.lemmas.Bool.Decides.{Decides-eqb}

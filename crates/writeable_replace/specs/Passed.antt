@@ -1,6 +1,6 @@
 -- What a sink passes on that replaces a text p by a text r in what it takes. It keeps back what may
 -- still begin an occurrence, and keeps of it a position in p alone.
-use Rattle.std.specs.Prelude.{◌≡◌, ℕ, ◌-◌, List, ◌++◌, length, take, Bool, true, Option, Some, None}
+use Rattle.std.specs.Prelude.{◌≡◌, ℕ, ◌-◌, ◌≤◌, List, ◌++◌, length, take, Bool, true, Option, Some, None}
 use Rattle.writeable_core.specs.Sink.{TookPrefix, Rose}
 use Rattle.writeable_core.specs.declared.sink.SinkError.{SinkError}
 use Rattle.writeable_core.specs.declared.sink.SinkError.TheVariants.{Fault, NoMemory}
@@ -23,6 +23,13 @@ position_after p s = overlap p (behind_last p s)
 -- what is passed on of a text: the text replaced, without its end that is kept back
 abbrev pub passed_on : List ℕ → List ℕ → List ℕ → List ℕ
 passed_on p r s = without_last (position_after p s) (replaced s p r)
+
+-- what a text comes to: the position after, and what is passed on
+pub record Came (p r s : List ℕ) (j : ℕ) (o : List ℕ) : Type 0 where
+  pub position : position_after p s ≡ j
+  pub text : passed_on p r s ≡ o
+  pub whole : replaced s p r ≡ o ++ take j p
+  pub proper : j ≤ length p - 1
 
 -- t was taken at the position k: the sink behind took what is passed on, and j is the position after
 pub record Passed {S : Type 0} (took : S → List ℕ → S → Type 0) (p r : List ℕ) (k : ℕ) (old : S) (t : List ℕ) (j : ℕ) (new : S) : Type 0 where

@@ -1,13 +1,13 @@
 -- Texts that are passed on one after another, with a text replaced in them.
-use Rattle.std.proofs.Common.{◌≡◌, ℕ, ◌+◌, ◌-◌, ◌≤◌, ◌<◌, zero, suc, Bool, true, false, List, [], ◌∷◌, ◌++◌, length, take, drop, Option, Some, None, refl, sym, ap, ◌∙◌, subst, arith, append-nil, append_assoc, length-append, ◌⊎◌, inl, inr}
+use Rattle.std.proofs.Common.{◌≡◌, ℕ, ◌-◌, ◌≤◌, zero, suc, Bool, true, false, List, [], ◌∷◌, ◌++◌, length, take, None, refl, sym, ap, ◌∙◌, subst, arith, append-nil, append_assoc, length-append}
 use Rattle.std.specs.Str.{bytes_eq}
 use Rattle.std.proofs.lemmas.List.{length-take-le, take_at}
 use Rattle.std.proofs.lemmas.Slice.Eq.{bytes_eq-Decides}
 use Rattle.writeable_replace.specs.Replaced.{first_at, replaced_times, replaced, behind_times, behind_last}
 use Rattle.writeable_replace.specs.ReplacedLaws.{none_in_shorter, none_more, none_of_empty, first_there, replaced_none, behind_none, replaced_first, behind_first}
-use Rattle.writeable_replace.specs.Overlap.{Ends, IsOverlap, overlap}
-use Rattle.writeable_replace.specs.OverlapLaws.{overlap_is, overlap_by, overlap_front, overlap_more, overlap_whole, ends_more}
-use Rattle.writeable_replace.specs.Passed.{without_last, so_far, position_after, passed_on}
+use Rattle.writeable_replace.specs.Overlap.{IsOverlap, overlap}
+use Rattle.writeable_replace.specs.OverlapLaws.{overlap_is, overlap_by, overlap_front, overlap_more, overlap_whole}
+use Rattle.writeable_replace.specs.Passed.{without_last, so_far, position_after, passed_on, Came}
 
 -- ---- a character at a time
 
@@ -74,13 +74,6 @@ kept_back p x o i j same le is =
     let kept = length-take-le j p le in
     ap (without_last i) is ∙ ap (λ n. take n (o ++ take j p)) (omega (arith, length-append o (take j p)))
     ∙ take_at o (take j p) (length o) refl
-
--- what the steps of a text from a position come to
-pub record Came (p r s : List ℕ) (j : ℕ) (o : List ℕ) : Type 0 where
-  pub position : position_after p s ≡ j
-  pub text : passed_on p r s ≡ o
-  pub whole : replaced s p r ≡ o ++ take j p
-  pub proper : j ≤ length p - 1
 
 pub run_came : (p r : List ℕ) {k : ℕ} {t : List ℕ} {j : ℕ} {o : List ℕ} → Run p r k t j o → k ≤ length p - 1 → Came p r (so_far p k t) j o
 run_came p r {k} {t} {j} {o} run le =

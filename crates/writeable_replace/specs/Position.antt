@@ -2,6 +2,7 @@
 use Rattle.std.specs.Prelude.{◌≡◌, ℕ, ◌+◌, ◌-◌, ◌<◌, ◌≤◌, suc, List, [], ◌∷◌, ◌++◌, length, take, chars, IsCharBoundary}
 use Rattle.std.specs.Char.{len_utf8}
 use Rattle.writeable_replace.specs.Overlap.{Ends, IsOverlap}
+use Rattle.writeable_replace.specs.Passed.{so_far, Came}
 
 -- how many characters the first n bytes of a text are
 abbrev pub position : List ℕ → ℕ → ℕ
@@ -41,3 +42,8 @@ pub record Resumed (needle : List ℕ) (matched c kept : ℕ) : Type 0 where
   pub boundary : IsCharBoundary needle kept
   pub tried : IsTried (chars needle) (position needle matched) c (position needle kept)
   pub next : Next needle kept c
+
+-- the first n bytes of a text pass as they are, whatever the replacement, and as much stays matched
+pub record IsFree (needle : List ℕ) (matched : ℕ) (text : List ℕ) (n : ℕ) : Type 0 where
+  pub boundary : IsCharBoundary text n
+  pub came : (r : List ℕ) → Came (chars needle) r (so_far (chars needle) (position needle matched) (chars (take n text))) (position needle matched) (chars (take n text))

@@ -1,17 +1,16 @@
 -- Positions in a text, in bytes and in characters.
-use Rattle.std.specs.Prelude.{nat_eq, IsUtf8, IsCharBoundary, chars, encode_utf8_all, slice_index}
+use Rattle.std.specs.Prelude.{nat_eq, IsUtf8, IsCharBoundary, chars, slice_index}
 use Rattle.std.specs.List.{starts_with}
-use Rattle.std.specs.Char.{IsScalar, len_utf8}
-use Rattle.std.proofs.Common.{◌≡◌, ℕ, ◌+◌, ◌-◌, ◌≤◌, ◌<◌, zero, suc, Bool, true, false, List, [], ◌∷◌, ◌++◌, length, take, drop, get_or, refl, sym, ap, ◌∙◌, subst, arith, append-nil, append_assoc, length-append, ◌⊎◌, inl, inr}
-use Rattle.std.proofs.lemmas.List.{length-take-le, length-drop, take_at, drop_at, take-append-drop, take-take, append_cancel_left, append_cancel_right, get_or-drop, get_or-take, drop-take, take-append-le, take_all, nil_from_length, length-take}
+use Rattle.std.specs.Char.{len_utf8}
+use Rattle.std.proofs.Common.{◌≡◌, ℕ, ◌+◌, ◌-◌, ◌≤◌, ◌<◌, suc, true, List, [], ◌∷◌, ◌++◌, length, take, drop, get_or, refl, sym, ap, ◌∙◌, subst, arith, append_assoc, length-append, ◌⊎◌, inl, inr}
+use Rattle.std.proofs.lemmas.List.{length-take-le, length-drop, take_at, take-append-drop, append_cancel_left, append_cancel_right, get_or-drop, get_or-take}
 use Rattle.std.proofs.lemmas.Bool.{cases_lt}
 use Rattle.std.proofs.lemmas.Bool.Decides.{Decides-eqb}
 use Rattle.std.proofs.lemmas.Slice.Eq.{starts_is}
-use Rattle.std.proofs.lemmas.Str.{chars-nil, chars-append, chars_past_char, encodes-chars, encodes-append, length-le-encodes, IsUtf8-take, IsUtf8-drop, IsCharBoundary-start, IsCharBoundary-from_take, IsCharBoundary-from_drop, IsCharBoundary-past_char, IsUtf8-past_char, drop_past_char, length-encode, len_utf8_bounds}
+use Rattle.std.proofs.lemmas.Str.{chars-nil, chars-append, chars_past_char, encodes-chars, encodes-append, length-le-encodes, IsUtf8-take, IsUtf8-drop, IsCharBoundary-start, IsCharBoundary-from_take, IsCharBoundary-past_char, drop_past_char}
 use Rattle.std.proofs.Math.Seq.{take-add, take-append_seam, drop-append_seam}
-use Rattle.writeable_replace.specs.Overlap.{Ends, IsOverlap}
-use Rattle.writeable_replace.specs.OverlapLaws.{ends_length, ends_both, ends_shorter, ends_more, ends_less, ends_nothing, ends_whole, front_more}
-use Rattle.writeable_replace.specs.Position.{position, IsPosition, GoesOn, IsTried, Next, Border}
+use Rattle.writeable_replace.specs.Overlap.{Ends}
+use Rattle.writeable_replace.specs.Position.{position, GoesOn, Next, Border}
 use lib.Utf8.{encode, encodes}
 
 -- ---- fronts

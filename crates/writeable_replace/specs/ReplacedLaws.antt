@@ -1,13 +1,12 @@
 -- First occurrences, and a text in which they are replaced.
-use Rattle.std.specs.Prelude.{nat_eq, option_map}
-use Rattle.std.specs.List.{starts_with}
+use Rattle.std.specs.Prelude.{option_map}
 use Rattle.std.proofs.Common.{◌≡◌, ℕ, ◌+◌, ◌-◌, ◌≤◌, ◌<◌, zero, suc, Bool, true, false, List, [], ◌∷◌, ◌++◌, length, take, drop, Option, Some, None, if◌then◌else◌, refl, sym, ap, ◌∙◌, subst, arith, append-nil, append_assoc, length-append, ◌⊎◌, inl, inr}
-use Rattle.std.proofs.lemmas.List.{take-append-le, take_at, drop_at, drop_all}
+use Rattle.std.proofs.lemmas.List.{take-append-le, drop_all}
 use Rattle.std.proofs.lemmas.Slice.Eq.{starts_is}
 use Rattle.std.proofs.lemmas.Bool.{cases_lt}
 use Rattle.std.proofs.lemmas.Bool.Decides.{Decides-eqb}
 use Rattle.std.proofs.Math.Seq.{drop-append-add, take-append_seam, drop-append_seam}
-use Rattle.writeable_replace.specs.Replaced.{stands, first_at, replaced_times, replaced, behind_times, behind_last}
+use Rattle.writeable_replace.specs.Replaced.{stands, first_at, replaced_times, behind_times}
 use Rattle.writeable_replace.specs.Overlap.{Ends}
 
 -- ---- where a text stands

@@ -2,16 +2,16 @@
 use Rattle.std.specs.Prelude.{chars, IsUtf8, IsCharBoundary, nat_eq}
 use Rattle.std.specs.Char.{len_utf8}
 use Rattle.std.specs.List.{starts_with}
-use Rattle.std.proofs.Common.{◌≡◌, ℕ, ◌+◌, ◌-◌, ◌≤◌, ◌<◌, zero, suc, true, false, List, [], ◌∷◌, ◌++◌, length, take, drop, get_or, refl, sym, ap, ◌∙◌, subst, arith, append-nil, append_assoc, length-append, ◌⊎◌, inl, inr}
+use Rattle.std.proofs.Common.{◌≡◌, ℕ, ◌+◌, ◌-◌, ◌≤◌, ◌<◌, zero, suc, true, false, List, [], ◌∷◌, ◌++◌, length, take, drop, get_or, sym, ap, ◌∙◌, subst, arith, append-nil, append_assoc, length-append, ◌⊎◌, inl, inr}
 use Rattle.std.proofs.lemmas.List.{length-take-le, take-take, take_all, drop_at, length-drop}
 use Rattle.std.proofs.lemmas.Bool.{cases_order}
 use Rattle.std.proofs.lemmas.Str.{encodes-chars, encodes-append, IsUtf8-take, IsUtf8-drop, IsCharBoundary-start, IsCharBoundary-from_take, IsCharBoundary-from_drop}
 use Rattle.std.proofs.Math.Seq.{take-length}
 use Rattle.writeable_replace.specs.Overlap.{Ends, IsOverlap}
 use Rattle.writeable_replace.specs.OverlapLaws.{ends_nothing, ends_whole, ends_both, ends_length, ends_shorter, ends_more, ends_less, front_more}
-use Rattle.writeable_replace.specs.Passed.{so_far}
-use Rattle.writeable_replace.specs.PassedLaws.{Step, whole, part, Came, step_came}
-use Rattle.writeable_replace.specs.Position.{position, IsPosition, GoesOn, IsTried, Border, Next, Resumed}
+use Rattle.writeable_replace.specs.Passed.{so_far, Came}
+use Rattle.writeable_replace.specs.PassedLaws.{Step, whole, part, step_came}
+use Rattle.writeable_replace.specs.Position.{position, IsPosition, GoesOn, IsTried, Border, Resumed}
 use Rattle.writeable_replace.specs.PositionLaws.{cut_chars, front_chars, position_none, next_bytes, some_chars}
 use lib.Utf8.{encode, encodes}
 

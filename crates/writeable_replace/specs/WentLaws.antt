@@ -1,13 +1,13 @@
 -- Texts that a sink takes one after another, and what it passes on of them.
-use Rattle.std.specs.Prelude.{Result, Ok, Err, IsErrOf, IsOk, OnOk}
-use Rattle.std.proofs.Common.{◌≡◌, ℕ, ◌-◌, ◌≤◌, Bool, true, false, List, [], ◌∷◌, ◌++◌, length, take, Option, Some, None, refl, sym, ap, ◌∙◌, subst, arith, append_assoc}
+use Rattle.std.specs.Prelude.{Result, Ok, Err, IsOk, OnOk}
+use Rattle.std.proofs.Common.{◌≡◌, ℕ, ◌-◌, ◌≤◌, Bool, false, List, [], ◌++◌, length, take, Option, Some, None, refl, sym, ap, ◌∙◌, subst, arith, append_assoc}
 use Rattle.writeable_core.specs.Sink.{TookPrefix, HasCause, Rose}
 use Rattle.writeable_core.specs.SinkLaws.{front_of_longer, front_after, rose_earlier, cause_earlier}
 use Rattle.writeable_core.specs.declared.sink.SinkError.{SinkError}
 use Rattle.writeable_core.specs.declared.sink.SinkError.TheVariants.{Fault, NoMemory}
 use Rattle.writeable_replace.specs.Replaced.{replaced}
-use Rattle.writeable_replace.specs.Passed.{so_far, position_after, passed_on, Passed, Refused, Went}
-use Rattle.writeable_replace.specs.PassedLaws.{Both, both, Came, nothing_came, passed_whole}
+use Rattle.writeable_replace.specs.Passed.{so_far, position_after, passed_on, Passed, Refused, Went, Came}
+use Rattle.writeable_replace.specs.PassedLaws.{both, nothing_came, passed_whole}
 
 -- what follows the text so far
 so_far_both : (p : List ℕ) (k : ℕ) (s t : List ℕ) → so_far p k (s ++ t) ≡ so_far p k s ++ t

@@ -1,7 +1,7 @@
 //! The hint of a text with replacements.
 
 ghost use Rattle.std.specs.Prelude.{◌≡◌};
-ghost use Rattle.writeable_replace.specs.Hints.{hint_rule};
+ghost use Rattle.writeable_replace.specs.ReplacedHint.{hint_rule};
 
 use writeable_core::LengthHint;
 

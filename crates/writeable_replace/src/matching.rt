@@ -1,9 +1,9 @@
 //! How far a needle is matched, from one character of the text to the next.
 
-ghost use Rattle.std.specs.Prelude.{◌≡◌, ℕ, ◌<◌, ◌≤◌, zero, List, [], ◌∷◌, length, chars, IfOk, IfErr, MatchOption, OnOk, OnErr, take, IsCharBoundary, IsUtf8};
+ghost use Rattle.std.specs.Prelude.{◌≡◌, ℕ, ◌<◌, ◌≤◌, zero, List, [], ◌∷◌, length, chars, IfOk, IfErr, MatchOption, OnOk, OnErr, take, IsCharBoundary, IsUtf8, slice_index, ◌≢◌};
 ghost use Rattle.writeable_core.specs.Sink.{TookPrefix, HasCause};
 ghost use Rattle.writeable_replace.specs.Passed.{Passed, Refused};
-ghost use Rattle.writeable_replace.specs.Position.{position, IsPosition, IsTried, GoesOn, Border, Resumed};
+ghost use Rattle.writeable_replace.specs.Position.{position, IsPosition, IsTried, GoesOn, Border, Resumed, IsFree};
 
 use writeable_core::{Sink, SinkError, Writeable};
 
@@ -42,17 +42,17 @@ fn resume(needle: &str, matched: usize, c: char) -> Option<usize>
     }
 }
 
-/// Passes on the first `count` bytes of the needle.
-pub(crate) fn pass_front<S: Sink>(needle: &str, count: usize, sink: &mut S) -> Result<(), SinkError>
-    requires { IsCharBoundary needle.now count }
-    ensures ok { OnOk result (S.took sink.old (chars (take count needle.now)) sink.new) }
-    ensures err { OnErr result (TookPrefix S.took sink.old (chars (take count needle.now)) sink.new) }
+/// Passes on the first `count` bytes of a text.
+pub(crate) fn pass_front<S: Sink>(text: &str, count: usize, sink: &mut S) -> Result<(), SinkError>
+    requires { IsCharBoundary text.now count }
+    ensures ok { OnOk result (S.took sink.old (chars (take count text.now)) sink.new) }
+    ensures err { OnErr result (TookPrefix S.took sink.old (chars (take count text.now)) sink.new) }
     ensures cause { HasCause (S.faults sink.old) (S.faults sink.new) (S.takes_memory sink.old) result }
 {
     if count == 0 {
         return Ok(());
     }
-    sink.push_str(&needle[..count])
+    sink.push_str(&text[..count])
 }
 
 /// Takes a character behind `matched` bytes of the needle: passes on what can't belong to an occurrence
@@ -96,6 +96,35 @@ fn split_first(text: &str) -> Option<(char, &str)>
     Some((c, all.as_str()))
 }
 
+/// Where the byte stands first, or the length where it doesn't.
+fn place_of(bytes: &[u8], byte: u8) -> usize
+    ensures within { result ≤ length bytes.now }
+    ensures before { (k : ℕ) → k < result → slice_index bytes.now k ≢ byte }
+    ensures found { result < length bytes.now → slice_index bytes.now result ≡ byte }
+{
+    for (i, b) in bytes.iter().enumerate() {
+        if *b == byte {
+            return i;
+        }
+    }
+    bytes.len()
+}
+
+/// How many bytes of a text pass as they are: where nothing is matched, those up to the needle's first
+/// byte.
+fn free_len(needle: &str, matched: usize, text: &str) -> usize
+    requires { IsPosition needle.now matched }
+    ensures { IsFree needle.now matched text.now result }
+{
+    if matched > 0 {
+        return 0;
+    }
+    if needle.is_empty() {
+        return text.len();
+    }
+    place_of(text.as_bytes(), needle.as_bytes()[0])
+}
+
 /// Takes a text behind `matched` bytes of the needle: passes on what can't belong to an occurrence any
 /// more, with the replacements, and says how much is matched then.
 pub(crate) fn take<C: Writeable, S: Sink>(
@@ -111,9 +140,15 @@ pub(crate) fn take<C: Writeable, S: Sink>(
     ensures err { IfErr result (λ e. Refused S.took S.faults S.takes_memory (chars needle.now) (C.text replacement.now) (position needle.now matched) sink.old (chars text.now) e sink.new) }
 {
     let mut rest = text;
-    while let Some((c, behind)) = split_first(rest) {
-        matched = take_char(needle, replacement, matched, c, sink)?;
-        rest = behind;
+    loop {
+        let free = free_len(needle, matched, rest);
+        pass_front(rest, free, sink)?;
+        match split_first(&rest[free..]) {
+            None => return Ok(matched),
+            Some((c, behind)) => {
+                matched = take_char(needle, replacement, matched, c, sink)?;
+                rest = behind;
+            }
+        }
     }
-    Ok(matched)
 }

@@ -5,8 +5,8 @@ ghost use Rattle.writeable_core.specs.Hint.{byte_length};
 ghost use Rattle.writeable_core.specs.Marks.{plain};
 ghost use Rattle.writeable_core.specs.MarksLaws.{characters-plain, Nests-plain};
 ghost use Rattle.writeable_core.specs.Sink.{TookPrefix, HasCause, Rose};
-ghost use Rattle.writeable_replace.specs.Hints.{hint_rule};
-ghost use Rattle.writeable_replace.specs.HintLaws.{Hinted-replaced};
+ghost use Rattle.writeable_replace.specs.ReplacedHint.{hint_rule};
+ghost use Rattle.writeable_replace.specs.ReplacedHintLaws.{Hinted-replaced};
 ghost use Rattle.writeable_replace.specs.Replaced.{replaced};
 
 use crate::hints::replaced_hint;

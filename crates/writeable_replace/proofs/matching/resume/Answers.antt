@@ -1,5 +1,5 @@
 -- A front that goes on with the character is found, or none is left.
-use Rattle.std.proofs.Common.{◌≡◌, ℕ, ◌<◌, ◌≤◌, length, take, chars, ◌∙◌, ap, subst, sym, arith, rules, true, false}
+use Rattle.std.proofs.Common.{◌≡◌, ◌<◌, ◌≤◌, length, take, chars, ◌∙◌, ap, subst, sym, arith, rules, true, false}
 use Rattle.std.proofs.lemmas.List.{length-take-le}
 use Rattle.writeable_replace.specs.Position.{position, IsTried, GoesOn, Border}
 use Rattle.writeable_replace.specs.PositionLaws.{next_tested, next_bytes, position_none}

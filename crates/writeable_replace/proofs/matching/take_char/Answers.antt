@@ -1,9 +1,7 @@
 -- What a character comes to, by how much stays matched.
-use Rattle.std.specs.Char.{len_utf8}
-use Rattle.std.proofs.Common.{◌≡◌, ℕ, ◌+◌, ◌-◌, ◌≤◌, length, [], ◌∷◌, ◌++◌, take, chars, ap, ◌∙◌, sym, subst, arith}
+use Rattle.std.proofs.Common.{◌+◌, [], ◌∷◌, take, chars, ap, ◌∙◌, sym, subst}
 use Rattle.std.proofs.lemmas.Result.{err_from_is_err_and}
-use Rattle.writeable_replace.specs.Passed.{Passed}
-use Rattle.writeable_replace.specs.Position.{position, IsPosition}
+use Rattle.writeable_replace.specs.Position.{IsPosition}
 use Rattle.writeable_replace.specs.TriedLaws.{position_start, none_came, part_came, whole_came}
 use Rattle.writeable_replace.specs.WentLaws.{passed_by, refused_by, refused_front, refused_behind}
 use Rattle.writeable_replace.proofs.matching.take_char.Goals as goal

@@ -1,7 +1,7 @@
 -- A needle has as many bytes as its characters.
 use Rattle.std.proofs.Common.{ap, sym, ◌∙◌}
 use Rattle.writeable_core.specs.TextLaws.{byte_length-chars}
-use Rattle.writeable_replace.specs.Hints.{hint_rule}
+use Rattle.writeable_replace.specs.ReplacedHint.{hint_rule}
 use Rattle.writeable_replace.proofs.replace.hint_with.Goals as goal
 
 pub returns : goal.returns

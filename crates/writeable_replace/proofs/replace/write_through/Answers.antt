@@ -1,5 +1,5 @@
 -- What was passed on, and what was kept back to the end, are the text replaced.
-use Rattle.std.proofs.Common.{chars, take, sym, subst}
+use Rattle.std.proofs.Common.{chars, subst}
 use Rattle.std.proofs.lemmas.Result.{on_ok_weaker, on_err_weaker}
 use Rattle.writeable_core.specs.Sink.{TookPrefix}
 use Rattle.writeable_replace.specs.PositionLaws.{position_none, front_chars}

@@ -1,13 +1,13 @@
 -- The length of a text with replacements lies in its hint.
-use Rattle.std.specs.Prelude.{nat_le, option_map, option_and_then, IfSome}
-use Rattle.std.proofs.Common.{◌≡◌, ℕ, ◌+◌, ◌≤◌, zero, suc, Bool, true, false, List, [], ◌∷◌, ◌++◌, length, take, drop, Option, Some, None, if◌then◌else◌, refl, sym, ap, ◌∙◌, subst, arith, ◌⊎◌, inl, inr, ◌<◌}
+use Rattle.std.specs.Prelude.{nat_le, option_and_then, IfSome}
+use Rattle.std.proofs.Common.{◌≡◌, ℕ, ◌+◌, ◌≤◌, zero, suc, true, false, List, ◌++◌, length, take, drop, Option, Some, None, if◌then◌else◌, refl, ap, ◌∙◌, arith, ◌⊎◌, inl, inr, ◌<◌}
 use Rattle.std.proofs.lemmas.Bool.Decides.{leb_tells}
 use Rattle.writeable_core.specs.Hint.{byte_length, Hinted}
 use Rattle.writeable_core.specs.HintLaws.{byte_length-append}
 use Rattle.writeable_core.specs.declared.length_hint.LengthHint.{LengthHint}
-use Rattle.writeable_replace.specs.Hints.{hint_rule}
-use Rattle.writeable_replace.specs.Replaced.{stands, first_at, replaced_times, replaced}
-use Rattle.writeable_replace.specs.ReplacedLaws.{stands-there, first_parts, replaced_none, replaced_at}
+use Rattle.writeable_replace.specs.ReplacedHint.{hint_rule}
+use Rattle.writeable_replace.specs.Replaced.{first_at, replaced_times, replaced}
+use Rattle.writeable_replace.specs.ReplacedLaws.{first_parts, replaced_none, replaced_at}
 
 -- the lengths of the parts of a text around an occurrence
 around : (x y z : List ℕ) → byte_length (x ++ (y ++ z)) ≡ byte_length x + (byte_length y + byte_length z)
