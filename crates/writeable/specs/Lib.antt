@@ -18,3 +18,5 @@ pub use Rattle.writeable_adapters.specs.Hints
 pub use Rattle.writeable_adapters.specs.Outcome
 pub use Rattle.writeable_adapters.specs.TryConcat
 pub use Rattle.writeable_cmp.specs.Sharing
+pub use Rattle.writeable_replace.specs.Replaced
+pub use Rattle.writeable_replace.specs.ReplacedHint

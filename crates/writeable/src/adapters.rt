@@ -4,3 +4,4 @@ pub use writeable_adapters::{
     Concat, CoreWriteAsPartsWrite, LossyWrap, TryWriteableInfallibleAsWriteable, WithPart,
     WriteableAsTryWriteableInfallible,
 };
+pub use writeable_replace::Replace;

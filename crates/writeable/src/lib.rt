@@ -19,6 +19,7 @@
 //! - `writeable_sinks`: the other sinks and sources.
 //! - `writeable_adapters`: [`adapters`], [`TryWriteable`], and hints of several texts.
 //! - `writeable_cmp`: comparison, and borrowing from other bytes.
+//! - `writeable_replace`: a text with a needle replaced, written as it comes.
 //! - `testing`: what a value writes, with its parts, for tests.
 #![tactic(auto)]
 
@@ -27,12 +28,13 @@ mod concat_macro;
 mod testing;
 
 pub use testing::{try_writeable_to_parts_for_test, writeable_to_parts_for_test};
-pub use writeable_adapters::{TryWriteable, replaced_hint, sum_hints, sum_lengths};
+pub use writeable_adapters::{TryWriteable, sum_hints, sum_lengths};
 pub use writeable_cmp::{cmp_str, cmp_utf8, to_string_or_borrow};
 pub use writeable_core::{
     LengthHint, OwnedText, Part, PartsWrite, Sink, SinkError, SliceSource, Source, SourceFault,
     StringSink, Text, TextList, TextRow, Writeable,
 };
+pub use writeable_replace::{replaced_hint, write_replaced};
 pub use writeable_sinks::{
     CountSink, FixedSink, PartSpan, PartsSink, ScriptSink, ScriptSource, StdSink, StdSource,
 };

@@ -1,7 +1,7 @@
-//! Hints of several texts, and of a text with replacements.
+//! Hints of several texts.
 
 ghost use Rattle.std.specs.Prelude.{◌≡◌};
-ghost use Rattle.writeable_adapters.specs.Hints.{hint_total, length_total, hint_rule};
+ghost use Rattle.writeable_adapters.specs.Hints.{hint_total, length_total};
 
 use writeable_core::LengthHint;
 
@@ -21,21 +21,4 @@ pub fn sum_lengths(lengths: &[usize]) -> LengthHint
     lengths
         .iter()
         .fold(LengthHint::exact(0), |total, length| total + *length)
-}
-
-/// The hint of a text in which each needle of `needle_len` bytes is replaced by one text.
-pub fn replaced_hint(source: LengthHint, needle_len: usize, replacement: LengthHint) -> LengthHint
-    ensures { result ≡ hint_rule source needle_len replacement }
-{
-    LengthHint(
-        if replacement.0 >= needle_len {
-            source.0
-        } else {
-            0
-        },
-        match replacement.1 {
-            Some(most) if most <= needle_len => source.1,
-            _ => None,
-        },
-    )
 }

@@ -14,7 +14,7 @@
 //! - `try_writeable`: the trait [`TryWriteable`], `Result`, and values that have no error.
 //! - `sides`: a value of one of two types.
 //! - `lossy`: [`LossyWrap`], which drops a value's error.
-//! - `hints`: hints of several texts, and of a text with replacements.
+//! - `hints`: hints of several texts.
 #![tactic(auto)]
 
 mod concat;
@@ -25,7 +25,7 @@ mod sides;
 mod try_writeable;
 
 pub use concat::Concat;
-pub use hints::{replaced_hint, sum_hints, sum_lengths};
+pub use hints::{sum_hints, sum_lengths};
 pub use lossy::LossyWrap;
 pub use parts_write_adapter::{CoreWriteAsPartsWrite, WithPart};
 pub use try_writeable::{

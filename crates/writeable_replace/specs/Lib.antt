@@ -1,0 +1,15 @@
+pub mod Along
+pub mod AlongLaws
+pub mod FreeLaws
+pub mod Overlap
+pub mod OverlapLaws
+pub mod Passed
+pub mod PassedLaws
+pub mod Position
+pub mod PositionLaws
+pub mod Replaced
+pub mod ReplacedHint
+pub mod ReplacedHintLaws
+pub mod ReplacedLaws
+pub mod TriedLaws
+pub mod WentLaws
