@@ -3,6 +3,7 @@
 //! - `texts`: values that write a text, and what is asked of them.
 //! - `tries`: values that may have an error.
 //! - `hints`: length hints.
+//! - `replaced`: texts in which a needle is replaced.
 //! - `sinks`: sinks, and lists of texts.
 //! - `parts`: parts, and a sink of parts.
 //! - `sources`: sources.
@@ -10,6 +11,7 @@
 
 mod hints;
 mod parts;
+mod replaced;
 mod sinks;
 mod sources;
 mod texts;
@@ -28,6 +30,7 @@ pub fn answer<'a>(alloc: Global, call: &str, arguments: &'a [Value]) -> Answer<'
             sources::answer(alloc, call, arguments)
         }
         Some((_, "push" | "text")) => sinks::answer(alloc, call, arguments),
+        None if call == "write_replaced" => replaced::answer(alloc, arguments),
         None if is_of_hints(call) => hints::answer_free(alloc, call, arguments),
         _ => texts::answer(alloc, call, arguments),
     }

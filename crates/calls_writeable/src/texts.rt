@@ -6,6 +6,7 @@
 //! ASCII lower case, lent where it has no other letters.
 
 use crate::parts::part;
+use crate::replaced::{pieces_of, replacing};
 use crate::sinks;
 use crate::tries::attempt;
 use calls::answers;
@@ -18,7 +19,7 @@ use std::borrow::CowStr;
 use std::boxed::BoxedStr;
 use std::rc::{Rc, RcStr};
 use writeable::adapters::{
-    Concat, CoreWriteAsPartsWrite, LossyWrap, TryWriteableInfallibleAsWriteable, WithPart,
+    Concat, CoreWriteAsPartsWrite, LossyWrap, Replace, TryWriteableInfallibleAsWriteable, WithPart,
     WriteableAsTryWriteableInfallible,
 };
 use writeable::{
@@ -88,6 +89,7 @@ impl Question<'_> {
         match name {
             "Concat" => self.of_items(alloc, inner),
             "WithPart" => self.of_part(alloc, inner),
+            "Replace" => self.of_replaced(alloc, inner),
             "char" | "Part" => Ok(self.ask(alloc, &item(value)?)?),
             "LossyWrap" => Ok(self.ask(alloc, &LossyWrap(attempt(inner)?))?),
             _ => match self.of_number(alloc, name, inner) {
@@ -162,6 +164,17 @@ impl Question<'_> {
         let part = part(category, name)?;
         let writeable = item(inner)?;
         Ok(self.ask(alloc, &WithPart { part, writeable })?)
+    }
+
+    /// A text in which a needle is replaced.
+    fn of_replaced<'a>(&self, alloc: Global, value: &'a Value) -> Answer<'a> {
+        let (source, needle, replacement) = replacing(value)?;
+        let replace = Replace {
+            source: pieces_of(source)?,
+            needle,
+            replacement: Text(replacement),
+        };
+        Ok(self.ask(alloc, &replace)?)
     }
 }
 
