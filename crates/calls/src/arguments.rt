@@ -110,7 +110,7 @@ pub fn flag(value: &Value) -> Result<bool, Wrong<'_>> {
 }
 
 /// The one of these values that has this name.
-pub fn named<'a, T: Copy, F: Fn(T) -> &'static str>(
+pub fn named<'a, 'n, T: Copy, F: Fn(T) -> &'n str>(
     given: &'a Value,
     values: &[T],
     name: F,
