@@ -109,24 +109,6 @@ pub fn flag(value: &Value) -> Result<bool, Wrong<'_>> {
         .ok_or(Wrong::Argument(value, "true or false"))
 }
 
-/// The one of these values that has this name.
-pub fn named<'a, T: Copy, F: Fn(T) -> &'static str>(
-    given: &'a Value,
-    values: &[T],
-    name: F,
-    wanted: &'static str,
-) -> Result<T, Wrong<'a>>
-    requires { F.IsAlwaysCallable name }
-{
-    let text = text(given)?;
-    for value in values {
-        if name(*value) == text {
-            return Ok(*value);
-        }
-    }
-    Err(Wrong::Argument(given, wanted))
-}
-
 pub fn list(value: &Value) -> Result<&[Value], Wrong<'_>> {
     match value {
         Value::Array(items) => Ok(items.as_slice()),

@@ -2,7 +2,7 @@
 
 use calls::answers;
 use calls::answers::Answer;
-use calls::arguments::{Wrong, named, text};
+use calls::arguments::{Wrong, text};
 use gettext::{Encoding, Error, MetadataMap, parse_metadata};
 use serde_json::Value;
 use std::alloc::Global;
@@ -53,7 +53,13 @@ fn encoding_name(encoding: Encoding) -> &'static str {
 
 /// The encoding with this name.
 pub fn encoding_of(given: &Value) -> Result<Encoding, Wrong<'_>> {
-    named(given, &ENCODINGS, encoding_name, "Utf8, Latin1 or Windows1252")
+    let text = text(given)?;
+    for encoding in ENCODINGS {
+        if encoding_name(encoding) == text {
+            return Ok(encoding);
+        }
+    }
+    Err(Wrong::Argument(given, "Utf8, Latin1 or Windows1252"))
 }
 
 /// The error as an answer.
@@ -102,5 +108,11 @@ pub fn name(error: Error) -> &'static str {
 
 /// The error with this name.
 pub fn error_of(given: &Value) -> Result<Error, Wrong<'_>> {
-    named(given, &ERRORS, name, "the name of an error")
+    let text = text(given)?;
+    for error in ERRORS {
+        if name(error) == text {
+            return Ok(error);
+        }
+    }
+    Err(Wrong::Argument(given, "the name of an error"))
 }

@@ -2,7 +2,7 @@
 
 use calls::answers;
 use calls::answers::Answer;
-use calls::arguments::{Wrong, named, text};
+use calls::arguments::{Wrong, text};
 use serde_json::Value;
 use std::alloc::{AllocError, Global};
 use unic_langid_impl::{IdJsonError, LanguageIdentifierError, LikelyError, ParserError};
@@ -37,7 +37,13 @@ fn parser_name(error: ParserError) -> &'static str {
 }
 
 fn parser_error(given: &Value) -> Result<ParserError, Wrong<'_>> {
-    named(given, &PARSER_ERRORS, parser_name, "the name of an error")
+    let text = text(given)?;
+    for error in PARSER_ERRORS {
+        if parser_name(error) == text {
+            return Ok(error);
+        }
+    }
+    Err(Wrong::Argument(given, "the name of an error"))
 }
 
 fn identifier_error(given: &Value) -> Result<LanguageIdentifierError, Wrong<'_>> {
@@ -71,7 +77,13 @@ pub fn likely_name(error: LikelyError) -> &'static str {
 }
 
 fn likely_error(given: &Value) -> Result<LikelyError, Wrong<'_>> {
-    named(given, &LIKELY_ERRORS, likely_name, "the name of an error")
+    let text = text(given)?;
+    for error in LIKELY_ERRORS {
+        if likely_name(error) == text {
+            return Ok(error);
+        }
+    }
+    Err(Wrong::Argument(given, "the name of an error"))
 }
 
 /// The parser's error as an answer.

@@ -7,7 +7,7 @@
 use crate::locales;
 use calls::answers;
 use calls::answers::{Answer, Object, printed};
-use calls::arguments::{Wrong, named, number, object, table, text};
+use calls::arguments::{Wrong, number, object, table, text};
 use icu_locale_core::DataLocale;
 use icu_locale_fallback::{
     FallbackRows, LocaleFallbackConfig, LocaleFallbackIterator, LocaleFallbackPriority,
@@ -160,7 +160,13 @@ fn priority_name(priority: LocaleFallbackPriority) -> &'static str {
 }
 
 fn priority_of(given: &Value) -> Result<LocaleFallbackPriority, Wrong<'_>> {
-    named(given, &PRIORITIES, priority_name, "Language, Script or Region")
+    let text = text(given)?;
+    for priority in PRIORITIES {
+        if priority_name(priority) == text {
+            return Ok(priority);
+        }
+    }
+    Err(Wrong::Argument(given, "Language, Script or Region"))
 }
 
 const ERRORS: [TableError; 4] = [
@@ -180,7 +186,13 @@ fn name(error: TableError) -> &'static str {
 }
 
 fn error_of(given: &Value) -> Result<TableError, Wrong<'_>> {
-    named(given, &ERRORS, name, "the name of an error")
+    let text = text(given)?;
+    for error in ERRORS {
+        if name(error) == text {
+            return Ok(error);
+        }
+    }
+    Err(Wrong::Argument(given, "the name of an error"))
 }
 
 fn fallbacker<'a>(alloc: Global, tables: &'a Value) -> Result<LocaleFallbacker, Wrong<'a>> {

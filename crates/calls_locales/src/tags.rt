@@ -4,7 +4,7 @@ ghost use Rattle.std.specs.Prelude.{◌≤◌};
 
 use calls::answers;
 use calls::answers::Answer;
-use calls::arguments::{Wrong, bytes, named, text};
+use calls::arguments::{Wrong, bytes, text};
 use serde_json::Value;
 use std::alloc::Global;
 use tinystr::{TinyError, TinyStr};
@@ -112,11 +112,20 @@ fn name(error: TinyError) -> &'static str {
     }
 }
 
+fn error_of(given: &Value) -> Result<TinyError, Wrong<'_>> {
+    let text = text(given)?;
+    for error in ERRORS {
+        if name(error) == text {
+            return Ok(error);
+        }
+    }
+    Err(Wrong::Argument(given, "the name of an error"))
+}
+
 /// An error's words, by its name.
 fn error_text<'a>(alloc: Global, arguments: &'a [Value]) -> Answer<'a> {
     let [given] = arguments else {
         return Err(Wrong::Call);
     };
-    let error = named(given, &ERRORS, name, "the name of an error")?;
-    Ok(answers::text(alloc, error.text())?)
+    Ok(answers::text(alloc, error_of(given)?.text())?)
 }

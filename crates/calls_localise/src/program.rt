@@ -9,7 +9,7 @@
 use crate::localising::{cause_of, refused_bundle};
 use calls::answers;
 use calls::answers::{Answer, Object};
-use calls::arguments::{Wrong, list, member, named, numbers, size, text};
+use calls::arguments::{Wrong, list, member, numbers, size, text};
 use calls::scripts::{Script, script_of};
 use localise_run::{Status, run};
 use serde_json::Value;
@@ -109,9 +109,19 @@ fn name(status: Status) -> &'static str {
     }
 }
 
+fn plain_status(given: &Value) -> Result<Status, Wrong<'_>> {
+    let text = text(given)?;
+    for status in STATUSES {
+        if name(status) == text {
+            return Ok(status);
+        }
+    }
+    Err(Wrong::Argument(given, "the name of a status"))
+}
+
 fn status_of(given: &Value) -> Result<Status, Wrong<'_>> {
     if given.is_string() {
-        return named(given, &STATUSES, name, "the name of a status");
+        return plain_status(given);
     }
     match member(given)? {
         ("Bundle", inner) => match list(inner)? {

@@ -53,15 +53,15 @@ pub fn part<'a>(category: &'a Value, name: &'a Value) -> Result<Part, Wrong<'a>>
 #[derive(Drop)]
 struct Marked {
     sink: PartsSink,
-    open: usize,
-    ghost counted: { length sink.begun ≡ open },
+    opened: usize,
+    ghost counted: { length sink.begun ≡ opened },
 }
 
 /// What a sink of parts answers to the pieces.
 pub fn answer<'a>(alloc: Global, pieces: &'a Value) -> Answer<'a> {
     let mut marked = Marked {
         sink: PartsSink::new(alloc),
-        open: 0,
+        opened: 0,
     };
     let mut pushes = Vec::new(alloc);
     for piece in list(pieces)? {
@@ -87,16 +87,16 @@ impl Marked {
             Piece::Text(text) => self.sink.push_str(text).map_err(|_| Wrong::NoMemory)?,
             Piece::Character(c) => self.sink.push_char(c).map_err(|_| Wrong::NoMemory)?,
             Piece::Open(part) => {
-                let open = self.open.checked_add(1).ok_or(Wrong::NoMemory)?;
+                let opened = self.opened.checked_add(1).ok_or(Wrong::NoMemory)?;
                 self.sink.open_part(part).map_err(|_| Wrong::NoMemory)?;
-                self.open = open;
+                self.opened = opened;
             }
             Piece::Close => {
-                if self.open == 0 {
+                if self.opened == 0 {
                     return Err(Wrong::Argument(given, "a piece that closes an open part"));
                 }
                 self.sink.close_part().map_err(|_| Wrong::NoMemory)?;
-                self.open -= 1;
+                self.opened -= 1;
             }
         }
         Ok(())

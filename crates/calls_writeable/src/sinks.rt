@@ -8,7 +8,7 @@ use crate::parts;
 use crate::parts::{Piece, piece_of};
 use calls::answers;
 use calls::answers::{Answer, Object};
-use calls::arguments::{Wrong, list, named, numbers, text};
+use calls::arguments::{Wrong, list, numbers, text};
 use serde_json::Value;
 use std::alloc::{AllocError, Global};
 use writeable::{
@@ -98,7 +98,13 @@ pub fn name(error: SinkError) -> &'static str {
 }
 
 fn error_of(given: &Value) -> Result<SinkError, Wrong<'_>> {
-    named(given, &ERRORS, name, "the name of an error")
+    let text = text(given)?;
+    for error in ERRORS {
+        if name(error) == text {
+            return Ok(error);
+        }
+    }
+    Err(Wrong::Argument(given, "the name of an error"))
 }
 
 fn listed<'a>(alloc: Global, given: &'a Value) -> Answer<'a> {
