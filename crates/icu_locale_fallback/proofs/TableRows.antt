@@ -1,15 +1,15 @@
 -- A table that is filled row by row.
-use Rattle.std.proofs.Common.{◌≡◌, zero, suc, ◌+◌, Bool, true, false, cond, List, [], ◌∷◌, ◌++◌, map, Option, Some, None, is_some, Ordering, refl, sym, ap, ◌∙◌, subst, arith}
+use Rattle.std.proofs.Common.{◌≡◌, ℕ, zero, suc, ◌+◌, Bool, true, false, cond, List, [], ◌∷◌, ◌++◌, map, Option, Some, None, is_some, take, Ordering, refl, sym, ap, ◌∙◌, subst, arith}
 use Rattle.std.specs.Cmp.{IsTotalOrder, Equal-is, tied_itself}
 use Rattle.std.specs.FinMap as finite
 use Rattle.std.specs.FinMap.{IsAntisymmetric}
-use Rattle.std.specs.List.{AllZip, Any}
+use Rattle.std.specs.List.{AllZip, Any, slice_get}
 use Rattle.std.specs.Ordering.{eq_by_cmp, is_eq}
 use Rattle.std.proofs.lemmas.Bool.{false≢true}
 use Rattle.std.proofs.lemmas.List.{length_push}
 use Rattle.std.proofs.lemmas.Slice.Zip.{all_zipped_more}
 use Rattle.writeable_core.specs.declared.text.TextRow.{TextRow}
-use Rattle.icu_locale_fallback.specs.Rows.{Misses, AreDistinct, IsTableOf}
+use Rattle.icu_locale_fallback.specs.Rows.{Misses, AreDistinct, FirstFaultIs, IsTableOf}
 use Rattle.icu_locale_fallback.proofs.Options.{none_by_is_some}
 
 -- a look-up that finds nothing passed the first entry
@@ -94,3 +94,10 @@ module _ {K X : Type 0} (key : TextRow → K → Type 0) (value : TextRow → X 
     earlier_key rows table k h found =
         found_row rows h.entries k h.say.said
         (ap is_some (sym (finite.get-from_entries total h.entries k) ∙ ap (λ t. finite.get t k) (sym h.table_is)) ∙ found)
+
+-- the row behind those of a table is the first faulty one, where it has a fault
+pub first_fault : {K X : Type 0} {key : TextRow → K → Type 0} {value : TextRow → X → Type 0} {R : K → K → Ordering} {table : finite.FinMap R X} {fault : TextRow → Type 0} (rows : List TextRow) (i : ℕ) (row : TextRow)
+    → IsTableOf key value (take i rows) table → slice_get rows i ≡ Some row → fault row
+    → FirstFaultIs key value rows i fault
+first_fault rows i row h at fault =
+    record { before = (h.entries, h.say); row = row; row_is = at; fault_is = fault }

@@ -74,7 +74,8 @@ module _ {K X : Type 0} (key : TextRow → K → Type 0) (value : TextRow → X 
   AreSound rows = ((entries : List (K × X)) × Say rows entries)
 
   -- the table is that of the rows, with as many entries
-  pub record IsTableOf {R : K → K → Ordering} (rows : List TextRow) (table : finite.FinMap R X) : Type 0 where
+  pub record IsTableOf {R : K → K → Ordering} (rows : List TextRow)
+      (table : finite.FinMap R X) : Type 0 where
     pub entries : List (K × X)
     pub say : Say rows entries
     pub table_is : table ≡ finite.from_entries entries

@@ -98,10 +98,12 @@ script_without_region F first language =
 -- the region goes, and the kept variant comes back
 abbrev pub region_dropped : Tables → Option (List ℕ) → Reached → Reached
 region_dropped F first r =
-    variant_back (record r { locale = record r.locale {
-      script = script_without_region F first r.locale.language;
-      region = None;
-    } })
+    variant_back (record r {
+      locale = record r.locale {
+        script = script_without_region F first r.locale.language;
+        region = None;
+      };
+    })
 
 -- the script goes
 abbrev pub without_script : Reached → Reached
@@ -110,10 +112,12 @@ without_script r = record r { locale = record r.locale { script = None } }
 -- language and script go; where there is a region, the kept variant and subdivision come back
 abbrev pub without_language : Reached → Reached
 without_language r =
-    let gone : Reached = record r { locale = record r.locale {
-      language = unknown.language;
-      script = None;
-    } } in
+    let gone : Reached = record r {
+      locale = record r.locale {
+        language = unknown.language;
+        script = None;
+      };
+    } in
     if is_some r.locale.region then subdivision_back (variant_back gone) else gone
 
 -- the script goes; where a region is kept, it comes back with all that is kept
@@ -126,10 +130,12 @@ without_likely_script r =
 -- the language goes for the first script; where there is one, the kept variant comes back
 abbrev pub to_first_script : Option (List ℕ) → Reached → Reached
 to_first_script first r =
-    let to : Reached = record r { locale = record r.locale {
-      language = unknown.language;
-      script = first;
-    } } in
+    let to : Reached = record r {
+      locale = record r.locale {
+        language = unknown.language;
+        script = first;
+      };
+    } in
     if is_some first then variant_back to else to
 
 -- where a rule leads, in a walk with this first script
@@ -143,11 +149,13 @@ step_by DropSubdivision F first r =
 step_by DropVariant F first r =
     record r { locale = record r.locale { variant = None }; kept_variant = r.locale.variant }
 step_by (GoToParent parent) F first r =
-    variant_back (record r { locale = record r.locale {
-      language = parent.language;
-      script = parent.script;
-      region = parent.region;
-    } })
+    variant_back (record r {
+      locale = record r.locale {
+        language = parent.language;
+        script = parent.script;
+        region = parent.region;
+      };
+    })
 step_by DropRegion F first r = region_dropped F first r
 step_by KeepRegion F first r =
     record (region_dropped F first r) { kept_region = r.locale.region }

@@ -7,5 +7,5 @@ use Rattle.icu_locale_fallback.proofs.table.table_of_rows.Given as goal
 abbrev pub invariant-loop-index : goal.invariant-loop-index
 invariant-loop-index g l =
     IsTableOf g.K.RowKey.key_is g.V.RowValue.value_is (take l.index l.rows)
-        (map.from_entries {R = g.K.Ord.cmp} l.table.entries)
+    (map.from_entries {R = g.K.Ord.cmp} l.table.entries)
     × (length l.table.entries ≡ l.index)
