@@ -8,11 +8,15 @@ use Rattle.std.specs.FinMap as map
 use Rattle.icu_locale_core.specs.Locale.{Locale, unknown}
 use Rattle.icu_locale_fallback.specs.Triple.{Triple, triple_of}
 use Rattle.icu_locale_fallback.specs.Tables.{Tables}
-use Rattle.icu_locale_fallback.specs.Walk.{Rule, rule, Point, step_by, walk, brings_back}
+use Rattle.icu_locale_fallback.specs.declared.config.LocaleFallbackPriority.TheVariants.{Language}
+use Rattle.icu_locale_fallback.specs.declared.rule.Rule.{Rule}
+use Rattle.icu_locale_fallback.specs.Normal.{first_script}
+use Rattle.icu_locale_fallback.specs.Steps.{Reached, reached, rule, step_by}
+use Rattle.icu_locale_fallback.specs.Walk.{brings_back}
 use Rattle.icu_locale_fallback.proofs.TripleOrder.{one_or_other}
 use Rattle.icu_locale_fallback.specs.Rows.{Misses, AreDistinct}
 use Rattle.icu_locale_fallback.proofs.Pigeonhole.{AreKeys, no_longer}
-use Rattle.icu_locale_fallback.proofs.Rules.{Applies, at_unknown, with_subdivision, with_variant, with_parent, with_region, with_language, applies}
+use Rattle.icu_locale_fallback.proofs.Rules.{Applies, at_unknown, with_subdivision, with_variant, with_parent, with_region, with_language, applies, drops_to_unknown}
 
 -- 1 where there is a subtag, else 0
 abbrev has : Option (List ℕ) → ℕ
@@ -40,10 +44,14 @@ earlier_or_none f t (suc k) =
       ]
     ]
 
-module _ (F : Tables) (first : Option (List ℕ)) (from : Point) where
+module _ (F : Tables) (l : Locale) where
+  -- the walk's first script
+  abbrev first : Option (List ℕ)
+  first = first_script F.likely Language l
+
   -- the walk
-  abbrev point : ℕ → Point
-  point k = walk F first from k
+  abbrev point : ℕ → Reached
+  point k = reached F Language l k
 
   -- and the triples of its locales
   abbrev triple : ℕ → Triple
@@ -51,7 +59,7 @@ module _ (F : Tables) (first : Option (List ℕ)) (from : Point) where
 
   -- step k is a parent or region step, to the triple of an earlier point
   abbrev pub RepeatsAt : ℕ → Type 0
-  RepeatsAt k = (brings_back (rule F (point (k - 1)).locale) ≡ true) × ((i : ℕ) × (i < k) × (triple k ≡ triple i))
+  RepeatsAt k = (brings_back (rule Language F (point (k - 1)).locale) ≡ true) × ((i : ℕ) × (i < k) × (triple k ≡ triple i))
 
   -- the walk has ended or repeated at some step up to k
   abbrev pub Stopped : ℕ → Type 0
@@ -86,16 +94,16 @@ module _ (F : Tables) (first : Option (List ℕ)) (from : Point) where
       (λ e. new i below (e ∙ sym is), misses_earlier k t new xs rest)
 
   -- the point behind one where the rule r applies
-  abbrev behind : ℕ → Rule → Point
-  behind k r = step_by r F first (point k).locale (point k).kept
+  abbrev behind : ℕ → Rule → Reached
+  behind k r = step_by r F first (point k)
 
   -- one step on
-  point-suc : (k : ℕ) → point (suc k) ≡ behind k (rule F (point k).locale)
-  unfolding walk
+  point-suc : (k : ℕ) → point (suc k) ≡ behind k (rule Language F (point k).locale)
+  unfolding reached
   point-suc k = refl
 
   -- a step goes on with the run, or ends or repeats
-  advance : (k : ℕ) (r : Rule) → rule F (point k).locale ≡ r → Applies F (point k).locale r
+  advance : (k : ℕ) (r : Rule) → rule Language F (point k).locale ≡ r → Applies F (point k).locale r
       → point (suc k) ≡ behind k r → Run k → Stopped (suc k) ⊎ Run (suc k)
   advance k r is (at_unknown e) to run = inl (k, omega arith, inl e)
   advance k r is (with_subdivision s) to run =
@@ -175,7 +183,8 @@ module _ (F : Tables) (first : Option (List ℕ)) (from : Point) where
               between = omega arith;
             })
       ]
-  advance k r is (with_language s v) to run = inl (suc k, omega arith, inl (ap (λ p. p.locale) to))
+  advance k r is (with_language s v g) to run =
+      inl (suc k, omega arith, inl (ap (λ p. p.locale) to ∙ drops_to_unknown F first (point k) s v g))
 
   -- a walk that has stopped has stopped a step later
   longer : (k : ℕ) → Stopped k → Stopped (suc k)
@@ -200,7 +209,7 @@ module _ (F : Tables) (first : Option (List ℕ)) (from : Point) where
   run_from (suc k) =
       elim (run_from k) [
         | inl stop ↦ inl (longer k stop)
-        | inr run ↦ advance k (rule F (point k).locale) refl (applies F (point k).locale) (point-suc k) run
+        | inr run ↦ advance k (rule Language F (point k).locale) refl (applies F (point k).locale) (point-suc k) run
       ]
 
   -- a run is too short for so many steps

@@ -5,7 +5,6 @@ pub mod Rules
 pub mod Ends
 pub mod Revisits
 pub mod RegionEnds
-pub mod NextStep
 pub mod WalkLaws
 pub mod Lookups
 pub mod Lowercase

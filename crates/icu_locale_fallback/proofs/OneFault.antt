@@ -9,7 +9,6 @@ use Rattle.icu_locale_fallback.specs.declared.rows.TableError.{TableError}
 use Rattle.icu_locale_fallback.specs.declared.rows.TableError.TheVariants.{DuplicateKey, BadKey, BadValue, NoMemory}
 use Rattle.icu_locale_fallback.specs.Faults.{IsFaultOf, IsLikelyFault, in_language, in_language_script, in_language_region, IsFirstFault, in_likely, in_parents}
 use Rattle.icu_locale_fallback.specs.Rows.{AreSound, HasEarlierKey, LanguageKey, LikelyValue, LanguageScriptKey, RegionValue, LanguageRegionKey, ScriptValue, ChildKey, ParentValue}
-use Rattle.icu_locale_fallback.specs.Triple.{Triple}
 use Rattle.icu_locale_fallback.proofs.RowLaws.{no_fault, no_likely_fault, language_key, likely_value, language_script_key, region_value, language_region_key, script_value, child_key, parent_value}
 
 -- a row of the first rows
@@ -26,7 +25,7 @@ row_of (BadKey table i) = i
 row_of (BadValue table i) = i
 row_of NoMemory = 0
 
-module _ {X : Type 0} (key : TextRow → Triple → Type 0) (value : TextRow → X → Type 0) (number : ℕ) where
+module _ {K X : Type 0} (key : TextRow → K → Type 0) (value : TextRow → X → Type 0) (number : ℕ) where
   -- a fault is one of the rows up to its own
   among : (n : ℕ) (rows : List TextRow) (e : TableError) → row_of e < n
       → IsFaultOf key value number rows e
@@ -107,7 +106,7 @@ module _ {X : Type 0} (key : TextRow → Triple → Type 0) (value : TextRow →
   same_row rows (BadValue t i) NoMemory n m same a b = absurd (m refl)
   same_row rows (DuplicateKey t i) NoMemory n m same a b = absurd (m refl)
 
-  module _ (one_key : (row : TextRow) (j k : Triple) → key row j → key row k → j ≡ k)
+  module _ (one_key : (row : TextRow) (j k : K) → key row j → key row k → j ≡ k)
       (one_value : (row : TextRow) (v w : X) → value row v → value row w → v ≡ w) where
     -- no faulty row stands before the first one
     not_before : (rows : List TextRow) (e f : TableError) → e ≢ NoMemory → f ≢ NoMemory

@@ -2,10 +2,9 @@
 use Rattle.std.proofs.Common.{◌≡◌, ℕ, zero, suc, ◌+◌, ◌-◌, ◌≤◌, Bool, true, ◌||◌, cond, List, Option, is_some, arith}
 use Rattle.icu_locale_core.specs.Locale.{Locale, unknown}
 use Rattle.icu_locale_fallback.specs.Normal.{first_script}
-use Rattle.icu_locale_fallback.specs.Walk.{is_unknown}
 use Rattle.icu_locale_fallback.specs.declared.config.LocaleFallbackPriority.TheVariants.{Region}
 use Rattle.icu_locale_fallback.specs.Tables.{Tables}
-use Rattle.icu_locale_fallback.specs.Steps.{Reached, step_of, has_language, start, reached, region_at}
+use Rattle.icu_locale_fallback.specs.Steps.{Reached, is_unknown, step_of, has_language, start, reached, region_at}
 use Rattle.icu_locale_fallback.proofs.Rules.{unknown_of}
 
 -- 1 where the test holds, else 0

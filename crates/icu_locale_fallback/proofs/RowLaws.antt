@@ -1,5 +1,5 @@
 -- Rows make one set of tables at most, and where none is faulty there is no fault.
-use Rattle.std.proofs.Common.{◌≡◌, ℕ, zero, suc, ◌<◌, List, [], ◌∷◌, length, map, Option, Some, None, refl, sym, ap, ◌∙◌, subst, arith}
+use Rattle.std.proofs.Common.{◌≡◌, ℕ, zero, suc, ◌<◌, List, [], ◌∷◌, length, map, Option, Some, None, Ordering, refl, sym, ap, ◌∙◌, subst, arith}
 use Rattle.std.specs.FinMap as finite
 use Rattle.std.specs.List.{AllZip, slice_get}
 use Rattle.std.proofs.lemmas.Option.{slice_get_read}
@@ -13,22 +13,22 @@ use Rattle.icu_locale_fallback.specs.Cells.{PrintsAs, locale_of}
 use Rattle.icu_locale_fallback.specs.Faults.{IsFaultOf, IsLikelyFault, in_language, in_language_script, in_language_region, IsFirstFault, in_likely, in_parents, AreLikelyOf, AreLikelySound, AreRowsSound, AreTablesOf}
 use Rattle.icu_locale_fallback.specs.Rows.{Misses, AreDistinct, AreSound, IsTableOf, LanguageKey, LikelyValue, LanguageScriptKey, RegionValue, LanguageRegionKey, ScriptValue, ChildKey, ParentValue}
 use Rattle.icu_locale_fallback.specs.Tables.{Likely, LikelySubtags, Tables}
-use Rattle.icu_locale_fallback.specs.Triple.{Triple, triple_cmp, triple_of}
+use Rattle.icu_locale_fallback.specs.Triple.{Triple, triple_of}
 
-module _ {X : Type 0} where
+module _ {K X : Type 0} where
   -- a key that no entry has is not that of the entry at a place
-  misses_at : (es : List (Triple × X)) (x : Triple) (i : ℕ) (e : Triple × X)
+  misses_at : (es : List (K × X)) (x : K) (i : ℕ) (e : K × X)
       → Misses (map (λ y. y.0) es) x → slice_get es i ≡ Some e → x ≡ e.0 → ⊥
   misses_at [] x i e h at same = cc
   misses_at (y ∷ es) x zero e h at same = h.0 (same ∙ ap (λ o. key_or x o) (sym at))
     where
-      key_or : Triple → Option (Triple × X) → Triple
+      key_or : K → Option (K × X) → K
       key_or d None = d
       key_or d (Some p) = p.0
   misses_at (y ∷ es) x (suc i) e h at same = misses_at es x i e h.1 at same
 
   -- the entries at two places have two keys
-  distinct_at : (es : List (Triple × X)) (i j : ℕ) (e f : Triple × X)
+  distinct_at : (es : List (K × X)) (i j : ℕ) (e f : K × X)
       → AreDistinct (map (λ y. y.0) es) → j < i → slice_get es i ≡ Some e
       → slice_get es j ≡ Some f → f.0 ≡ e.0 → ⊥
   distinct_at [] i j e f h below at_i at_j same = cc
@@ -39,23 +39,23 @@ module _ {X : Type 0} where
   distinct_at (y ∷ es) (suc i) (suc j) e f h below at_i at_j same =
       distinct_at es i j e f h.1 (omega arith) at_i at_j same
 
-module _ {X : Type 0} (key : TextRow → Triple → Type 0) (value : TextRow → X → Type 0) where
+module _ {K X : Type 0} (key : TextRow → K → Type 0) (value : TextRow → X → Type 0) where
   -- a row says an entry
-  abbrev Says : TextRow → Triple × X → Type 0
+  abbrev Says : TextRow → K × X → Type 0
   Says row entry = key row entry.0 × value row entry.1
 
   -- what the row at a place says stands at that place
-  said_at : (rows : List TextRow) (es : List (Triple × X)) (i : ℕ) (row : TextRow)
+  said_at : (rows : List TextRow) (es : List (K × X)) (i : ℕ) (row : TextRow)
       → AllZip Says rows es → slice_get rows i ≡ Some row
-      → (e : Triple × X) × (slice_get es i ≡ Some e) × Says row e
+      → (e : K × X) × (slice_get es i ≡ Some e) × Says row e
   said_at [] es i row said at = cc
   said_at (r ∷ rows) [] i row said at = absurd said
   said_at (r ∷ rows) (e ∷ es) zero row said at = let is : r ≡ row = cc in (e, refl, subst (λ x. Says x e) is said.0)
   said_at (r ∷ rows) (e ∷ es) (suc i) row said at = said_at rows es i row said.1 at
 
-module _ {X : Type 0} (key : TextRow → Triple → Type 0) (value : TextRow → X → Type 0) (one_key : (row : TextRow) (j k : Triple) → key row j → key row k → j ≡ k) (one_value : (row : TextRow) (v w : X) → value row v → value row w → v ≡ w) where
+module _ {K X : Type 0} (key : TextRow → K → Type 0) (value : TextRow → X → Type 0) (one_key : (row : TextRow) (j k : K) → key row j → key row k → j ≡ k) (one_value : (row : TextRow) (v w : X) → value row v → value row w → v ≡ w) where
   -- rows say one list of entries
-  same_entries : (rows : List TextRow) (es fs : List (Triple × X))
+  same_entries : (rows : List TextRow) (es fs : List (K × X))
       → AllZip (Says key value) rows es → AllZip (Says key value) rows fs → es ≡ fs
   same_entries [] [] [] h g = refl
   same_entries [] [] (f ∷ fs) h g = absurd g
@@ -69,7 +69,7 @@ module _ {X : Type 0} (key : TextRow → Triple → Type 0) (value : TextRow →
       λ i. (k i, v i) ∷ rest i
 
   -- and make one table
-  pub same_table : (rows : List TextRow) (one other : finite.FinMap triple_cmp X)
+  pub same_table : {R : K → K → Ordering} (rows : List TextRow) (one other : finite.FinMap R X)
       → IsTableOf key value rows one → IsTableOf key value rows other → one ≡ other
   same_table rows one other h g =
       h.table_is ∙ ap finite.from_entries (same_entries rows h.entries g.entries h.say.said g.say.said) ∙ sym g.table_is
@@ -99,7 +99,7 @@ module _ {X : Type 0} (key : TextRow → Triple → Type 0) (value : TextRow →
 -- ---- a row says one key and one value at most
 
 -- table 0: its key
-pub language_key : (row : TextRow) (j k : Triple) → LanguageKey row j → LanguageKey row k → j ≡ k
+pub language_key : (row : TextRow) (j k : List ℕ) → LanguageKey row j → LanguageKey row k → j ≡ k
 language_key row j k a b = a.1 ∙ sym b.1
 
 -- its value
@@ -107,7 +107,7 @@ pub likely_value : (row : TextRow) (v w : Likely) → LikelyValue row v → Like
 likely_value row v w a b = a.2 ∙ sym b.2
 
 -- table 1: its key
-pub language_script_key : (row : TextRow) (j k : Triple) → LanguageScriptKey row j
+pub language_script_key : (row : TextRow) (j k : List ℕ × List ℕ) → LanguageScriptKey row j
     → LanguageScriptKey row k → j ≡ k
 language_script_key row j k a b = a.2 ∙ sym b.2
 
@@ -116,7 +116,7 @@ pub region_value : (row : TextRow) (v w : List ℕ) → RegionValue row v → Re
 region_value row v w a b = a.1 ∙ sym b.1
 
 -- table 2: its key
-pub language_region_key : (row : TextRow) (j k : Triple) → LanguageRegionKey row j
+pub language_region_key : (row : TextRow) (j k : List ℕ × List ℕ) → LanguageRegionKey row j
     → LanguageRegionKey row k → j ≡ k
 language_region_key row j k a b = a.2 ∙ sym b.2
 
@@ -155,7 +155,7 @@ same_tables rows one other h g =
     λ i. record { likely = likely i; parents = parents i }
 
 -- rows of which a table is are sound
-sound : {X : Type 0} {key : TextRow → Triple → Type 0} {value : TextRow → X → Type 0} {rows : List TextRow} {table : finite.FinMap triple_cmp X}
+pub sound : {K X : Type 0} {key : TextRow → K → Type 0} {value : TextRow → X → Type 0} {R : K → K → Ordering} {rows : List TextRow} {table : finite.FinMap R X}
     → IsTableOf key value rows table → AreSound key value rows
 sound h = (h.entries, h.say)
 

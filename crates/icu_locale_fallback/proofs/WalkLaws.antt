@@ -1,26 +1,33 @@
 -- The laws of the walk that the crate promises.
-use Rattle.std.proofs.Common.{◌≡◌, ℕ, zero, suc, ◌+◌, ◌-◌, ◌<◌, None, cond, refl, sym, ap, ◌∙◌, inl, inr, arith, zero-add}
+use Rattle.std.proofs.Common.{◌≡◌, ℕ, zero, suc, ◌+◌, ◌-◌, ◌<◌, refl, sym, ap, ◌∙◌, inl, inr, arith, zero-add}
+use Rattle.std.proofs.Math.Numerals.{add-one}
 use Rattle.std.proofs.lemmas.Bool.{false≢true, cases_lt}
 use Rattle.icu_locale_core.specs.Locale.{Locale, unknown}
 use Rattle.icu_locale_fallback.specs.declared.config.LocaleFallbackPriority.{LocaleFallbackPriority}
 use Rattle.icu_locale_fallback.specs.declared.config.LocaleFallbackPriority.TheVariants.{Language}
 use Rattle.icu_locale_fallback.specs.Tables.{Tables}
-use Rattle.icu_locale_fallback.specs.Normal.{normal, first_script}
-use Rattle.icu_locale_fallback.specs.Steps.{StaysAtUnknown, reached, rules_of}
-use Rattle.icu_locale_fallback.specs.Walk.{Point, at, brings_back, is_unknown, rule, EndsOrRepeats, NeverRepeats, Repeats, RevisitsOnly, StaysUnknown}
+use Rattle.icu_locale_fallback.specs.Normal.{first_script}
+use Rattle.icu_locale_fallback.specs.Steps.{StaysAtUnknown, reached, rule, start, step_by, step_of}
+use Rattle.icu_locale_fallback.specs.Walk.{at, brings_back, EndsOrRepeats, NeverRepeats, Repeats, RevisitsOnly, StaysUnknown}
 use Rattle.icu_locale_fallback.proofs.Ends.{ends_or_repeats}
-use Rattle.icu_locale_fallback.proofs.NextStep.{at-reached, reached-suc}
 use Rattle.icu_locale_fallback.proofs.Revisits.{revisits}
 
--- where the walk begins
-abbrev from : Tables → Locale → Point
-from F l = record { locale = normal F.likely Language l; kept = None }
+-- no step
+pub reached-zero : (F : Tables) (priority : LocaleFallbackPriority) (l : Locale)
+    → reached F priority l 0 ≡ start F priority l
+unfolding reached
+reached-zero F priority l = refl
+
+-- one step more
+pub reached-suc : (F : Tables) (priority : LocaleFallbackPriority) (l : Locale) (k : ℕ)
+    → reached F priority l (k + 1) ≡ step_of priority F (first_script F.likely priority l) (reached F priority l k)
+unfolding reached
+reached-suc F priority l k = rw add-one refl
 
 -- the walk ends or repeats
 pub EndsOrRepeats-holds : (F : Tables) (l : Locale) → EndsOrRepeats F l
-unfolding at
 EndsOrRepeats-holds F l =
-    let (k, bound, stop) = ends_or_repeats F (first_script F.likely Language l) (from F l) in
+    let (k, bound, stop) = ends_or_repeats F l in
     record {
       steps = k;
       bound = bound;
@@ -32,9 +39,7 @@ EndsOrRepeats-holds F l =
 
 -- behind a repeat nothing new comes
 pub RevisitsOnly-holds : (F : Tables) (l : Locale) → RevisitsOnly F l
-unfolding at
-RevisitsOnly-holds F l k n r later =
-    revisits F (first_script F.likely Language l) (normal F.likely Language l) k n (r.step, (r.earlier, r.below, r.same))
+RevisitsOnly-holds F l k n r later = revisits F l k n (r.step, (r.earlier, r.below, r.same))
 
 -- ---- at the unknown locale
 
@@ -45,7 +50,7 @@ module _ (F : Tables) (priority : LocaleFallbackPriority) (l : Locale) where
   next_stays k e =
       let first = first_script F.likely priority l in
       let r = reached F priority l k in
-      reached-suc F priority l k ∙ ap (λ b. cond b r (rules_of priority F first r)) (ap is_unknown e)
+      reached-suc F priority l k ∙ ap (λ x. step_by x F first r) (ap (rule priority F) e)
 
   -- and so do n more
   stays_for : (k n : ℕ) → (reached F priority l k).locale ≡ unknown
@@ -66,14 +71,13 @@ module _ (F : Tables) (l : Locale) where
   -- in the language priority
   pub StaysUnknown-holds : StaysUnknown F l
   StaysUnknown-holds k n e le =
-      let there : (reached F Language l k).locale ≡ unknown = sym (at-reached F l k) ∙ e in
-      at-reached F l n ∙ ap (λ r. r.locale) (StaysAtUnknown-holds F Language l k n there le) ∙ there
+      ap (λ r. r.locale) (StaysAtUnknown-holds F Language l k n e le) ∙ e
 
   -- a step that repeats is not behind the unknown locale
   never_behind : (k j : ℕ) → Repeats F l k → j < k → at F l j ≡ unknown → ⊥
   never_behind k j r below e =
       let there = StaysUnknown-holds j (k - 1) e (omega arith) in
-      false≢true (sym (ap (λ x. brings_back (rule F x)) there) ∙ r.step)
+      false≢true (sym (ap (λ x. brings_back (rule Language F x)) there) ∙ r.step)
 
   -- a repeat leads back behind the unknown locale or comes before it
   pub NeverRepeats-holds : NeverRepeats F l

@@ -9,7 +9,7 @@ use Rattle.icu_locale_fallback.specs.Rows.{AreSound, FirstFaultIs, HasNoKey, Has
 use Rattle.icu_locale_fallback.specs.Tables.{LikelySubtags, Tables}
 use Rattle.icu_locale_fallback.specs.Triple.{Triple, triple_cmp}
 
-module _ {X : Type 0} (key : TextRow → Triple → Type 0) (value : TextRow → X → Type 0) where
+module _ {K X : Type 0} (key : TextRow → K → Type 0) (value : TextRow → X → Type 0) where
   -- the first fault of the table with this number, unless memory ran out
   abbrev pub IsFaultOf : ℕ → List TextRow → TableError → Type 0
   IsFaultOf number rows (DuplicateKey table i) =

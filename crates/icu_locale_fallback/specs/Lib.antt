@@ -1,5 +1,7 @@
 pub mod Cells
 pub mod Faults
+pub mod KeyLaws
+pub mod Keys
 pub mod Normal
 pub mod Rows
 pub mod Steps

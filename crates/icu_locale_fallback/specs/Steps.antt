@@ -1,16 +1,17 @@
 -- One step of a walk in each priority (UTS 35, locale inheritance and matching, as
--- `icu_locale_fallback` applies it).
-use Rattle.std.specs.Prelude.{◌≡◌, ◌≤◌, ℕ, suc, zero, List, [], ◌∷◌, Option, Some, None, Bool, ◌&&◌, ◌||◌, not, is_some, unwrap_or, if◌then◌else◌}
+-- `icu_locale_fallback` applies it): which rule applies, and what it does.
+use Rattle.std.specs.Prelude.{◌≡◌, ◌≤◌, ℕ, suc, zero, List, [], ◌∷◌, Option, Some, None, Bool, ◌&&◌, ◌||◌, not, is_some, is_none, unwrap_or, if◌then◌else◌}
 use Rattle.std.specs.FinMap as map
 use Rattle.std.specs.Option.{option_map}
 use Rattle.icu_locale_core.specs.Equality.{same_text, same_subtag}
 use Rattle.icu_locale_core.specs.Locale.{Locale, unknown}
 use Rattle.icu_locale_fallback.specs.declared.config.LocaleFallbackPriority.{LocaleFallbackPriority}
 use Rattle.icu_locale_fallback.specs.declared.config.LocaleFallbackPriority.TheVariants.{Language, Script, Region}
+use Rattle.icu_locale_fallback.specs.declared.rule.Rule.{Rule}
+use Rattle.icu_locale_fallback.specs.declared.rule.Rule.TheVariants.{Stay, DropSubdivision, DropVariant, GoToParent, DropRegion, KeepRegion, DropLanguage, DropLastRegion, DropLikelyScript, GoToFirstScript, DropScript}
 use Rattle.icu_locale_fallback.specs.Normal.{normal, first_script}
 use Rattle.icu_locale_fallback.specs.Tables.{Tables, likely_script}
 use Rattle.icu_locale_fallback.specs.Triple.{triple_of}
-use Rattle.icu_locale_fallback.specs.Walk.{is_unknown, script_without_region}
 
 -- where a walk is: a locale, and the subtags that it dropped and that come back
 pub record Reached : Type 0 where
@@ -19,165 +20,156 @@ pub record Reached : Type 0 where
   pub kept_subdivision : Option (List ℕ)
   pub kept_region : Option (List ℕ)
 
--- A rule gives where it leads, or none where it does not apply. Of several the first that
--- applies holds, and else the last.
-abbrev pub first_of : List (Option Reached) → Reached → Reached
-first_of [] last = last
-first_of (rule ∷ rules) last = unwrap_or rule (first_of rules last)
+-- ---- which rule applies
 
--- a subdivision is dropped and kept
-abbrev pub without_subdivision : Reached → Option Reached
-without_subdivision r =
-    option_map (λ s. record r {
-      locale = record r.locale { subdivision = None };
-      kept_subdivision = Some s;
-    }) r.locale.subdivision
-
--- a variant is dropped and kept
-abbrev pub without_variant : Reached → Option Reached
-without_variant r =
-    option_map (λ v. record r {
-      locale = record r.locale { variant = None };
-      kept_variant = Some v;
-    }) r.locale.variant
-
--- language, script and region become the parent's, and the kept variant comes back
-abbrev pub to_parent : Tables → Reached → Option Reached
-to_parent F r =
-    option_map (λ parent. record r {
-      locale = record r.locale {
-        language = parent.language;
-        script = parent.script;
-        region = parent.region;
-        variant = r.kept_variant;
-      };
-      kept_variant = None;
-    }) (map.get F.parents (triple_of r.locale))
-
--- a region is dropped, the script is the one without the region, and the kept variant comes back
-abbrev pub without_region : Tables → Option (List ℕ) → Reached → Option Reached
-without_region F first r =
-    option_map (λ region. record r {
-      locale = record r.locale {
-        script = script_without_region F first r.locale.language;
-        region = None;
-        variant = r.kept_variant;
-      };
-      kept_variant = None;
-    }) r.locale.region
-
--- the same, and the region is kept
-abbrev pub with_kept_region : Tables → Option (List ℕ) → Reached → Option Reached
-with_kept_region F first r =
-    option_map {T = Reached} (λ s. record s { kept_region = r.locale.region })
-    (without_region F first r)
+-- language `und` and nothing else
+abbrev pub is_unknown : Locale → Bool
+is_unknown l =
+    same_text l.language unknown.language
+    && (is_none l.script && (is_none l.region && (is_none l.variant && is_none l.subdivision)))
 
 -- whether a locale has a language, one that is known
 abbrev pub has_language : Locale → Bool
 has_language l = not (same_text l.language unknown.language)
 
--- language and script go
-abbrev pub to_unknown_language : Reached → Reached
-to_unknown_language r =
-    record r { locale = record r.locale { language = unknown.language; script = None } }
+-- and a script that the language most likely has
+abbrev pub has_likely_script : Tables → Locale → Bool
+has_likely_script F l =
+    has_language l
+    && (is_some l.script && same_subtag l.script (likely_script F.likely l.language))
+
+-- a rule, where its condition holds
+abbrev pub when : Bool → Rule → Option Rule
+when condition rule = if condition then Some rule else None
+
+-- the rule of the parent, where there is one
+abbrev pub parent_rule : Tables → Locale → Option Rule
+parent_rule F l = option_map GoToParent (map.get F.parents (triple_of l))
+
+-- the rules of a priority that stand behind those that all have, in their order
+abbrev pub own_rules : LocaleFallbackPriority → Tables → Locale → List (Option Rule)
+own_rules Language F l =
+    parent_rule F l ∷ when (is_some l.region) DropRegion ∷ Some DropLanguage ∷ []
+own_rules Region F l =
+    when (has_language l || is_some l.script) DropLanguage ∷ Some DropLastRegion ∷ []
+own_rules Script F l =
+    parent_rule F l ∷ when (is_some l.region) KeepRegion
+    ∷ when (has_likely_script F l) DropLikelyScript ∷ when (has_language l) GoToFirstScript
+    ∷ Some DropScript ∷ []
+
+-- the first rule that is there
+abbrev pub first_of : List (Option Rule) → Rule
+first_of [] = Stay
+first_of (rule ∷ rules) = unwrap_or rule (first_of rules)
+
+-- the rule that applies to a locale in a priority: the first whose condition holds
+abbrev pub rule : LocaleFallbackPriority → Tables → Locale → Rule
+rule priority F l =
+    first_of
+    (when (is_unknown l) Stay ∷ when (is_some l.subdivision) DropSubdivision
+    ∷ when (is_some l.variant) DropVariant ∷ own_rules priority F l)
+
+-- ---- what a rule does
+
+-- the kept variant comes back, and is no longer kept
+abbrev pub variant_back : Reached → Reached
+variant_back r =
+    record r { locale = record r.locale { variant = r.kept_variant }; kept_variant = None }
+
+-- so does the kept subdivision
+abbrev pub subdivision_back : Reached → Reached
+subdivision_back r =
+    record r {
+      locale = record r.locale { subdivision = r.kept_subdivision };
+      kept_subdivision = None;
+    }
+
+-- and the kept region
+abbrev pub region_back : Reached → Reached
+region_back r =
+    record r { locale = record r.locale { region = r.kept_region }; kept_region = None }
+
+-- the script that is left when the region goes: none where the first script is the language's
+-- likely one, else the first
+abbrev pub script_without_region : Tables → Option (List ℕ) → List ℕ → Option (List ℕ)
+script_without_region F first language =
+    if same_subtag (likely_script F.likely language) first then None else first
+
+-- the region goes, and the kept variant comes back
+abbrev pub region_dropped : Tables → Option (List ℕ) → Reached → Reached
+region_dropped F first r =
+    variant_back (record r {
+      locale = record r.locale {
+        script = script_without_region F first r.locale.language;
+        region = None;
+      };
+    })
 
 -- the script goes
 abbrev pub without_script : Reached → Reached
 without_script r = record r { locale = record r.locale { script = None } }
 
--- the region goes
-abbrev pub without_last_region : Reached → Reached
-without_last_region r = record r { locale = record r.locale { region = None } }
-
--- variant and subdivision come back
-abbrev pub restored : Reached → Reached
-restored r = record r {
-  locale = record r.locale { variant = r.kept_variant; subdivision = r.kept_subdivision };
-  kept_variant = None;
-  kept_subdivision = None;
-}
-
--- the language priority
-abbrev pub language_rules : Tables → Option (List ℕ) → Reached → Reached
-language_rules F first r =
-    first_of
-    (without_subdivision r ∷ without_variant r ∷ to_parent F r ∷ without_region F first r ∷ [])
-    (to_unknown_language r)
-
--- language and script go, and where there is a region what was kept comes back
-abbrev pub without_language : Reached → Option Reached
+-- language and script go; where there is a region, the kept variant and subdivision come back
+abbrev pub without_language : Reached → Reached
 without_language r =
-    if has_language r.locale || is_some r.locale.script
-    then Some (to_unknown_language (if is_some r.locale.region then restored r else r))
-    else None
-
--- the region priority
-abbrev pub region_rules : Reached → Reached
-region_rules r =
-    first_of (without_subdivision r ∷ without_variant r ∷ without_language r ∷ [])
-    (without_last_region r)
-
--- a script that the language most likely has goes, and the region that was kept comes back with
--- what was kept beside it
-abbrev pub without_likely_script : Tables → Reached → Option Reached
-without_likely_script F r =
-    if has_language r.locale && (is_some r.locale.script
-    && same_subtag r.locale.script (likely_script F.likely r.locale.language))
-    then Some
-    (if is_some r.kept_region
-    then record {
+    let gone : Reached = record r {
       locale = record r.locale {
+        language = unknown.language;
         script = None;
-        region = r.kept_region;
-        variant = r.kept_variant;
-        subdivision = r.kept_subdivision;
       };
-      kept_variant = None;
-      kept_subdivision = None;
-      kept_region = None;
-    }
-    else without_script r)
-    else None
+    } in
+    if is_some r.locale.region then subdivision_back (variant_back gone) else gone
+
+-- the script goes; where a region is kept, it comes back with all that is kept
+abbrev pub without_likely_script : Reached → Reached
+without_likely_script r =
+    if is_some r.kept_region
+    then region_back (subdivision_back (variant_back (without_script r)))
+    else without_script r
 
 -- the language goes for the first script; where there is one, the kept variant comes back
-abbrev pub to_first_script : Option (List ℕ) → Reached → Option Reached
+abbrev pub to_first_script : Option (List ℕ) → Reached → Reached
 to_first_script first r =
-    if has_language r.locale
-    then Some
-    (if is_some first
-    then record r {
+    let to : Reached = record r {
       locale = record r.locale {
         language = unknown.language;
         script = first;
-        variant = r.kept_variant;
       };
-      kept_variant = None;
+    } in
+    if is_some first then variant_back to else to
+
+-- where a rule leads, in a walk with this first script
+abbrev pub step_by : Rule → Tables → Option (List ℕ) → Reached → Reached
+step_by Stay F first r = r
+step_by DropSubdivision F first r =
+    record r {
+      locale = record r.locale { subdivision = None };
+      kept_subdivision = r.locale.subdivision;
     }
-    else to_unknown_language r)
-    else None
+step_by DropVariant F first r =
+    record r { locale = record r.locale { variant = None }; kept_variant = r.locale.variant }
+step_by (GoToParent parent) F first r =
+    variant_back (record r {
+      locale = record r.locale {
+        language = parent.language;
+        script = parent.script;
+        region = parent.region;
+      };
+    })
+step_by DropRegion F first r = region_dropped F first r
+step_by KeepRegion F first r =
+    record (region_dropped F first r) { kept_region = r.locale.region }
+step_by DropLanguage F first r = without_language r
+step_by DropLastRegion F first r = record r { locale = record r.locale { region = None } }
+step_by DropLikelyScript F first r = without_likely_script r
+step_by GoToFirstScript F first r = to_first_script first r
+step_by DropScript F first r = without_script r
 
--- where there is no region left
-abbrev pub without_region_left : Tables → Option (List ℕ) → Reached → Reached
-without_region_left F first r =
-    first_of (without_likely_script F r ∷ to_first_script first r ∷ []) (without_script r)
+-- ---- the walk
 
--- the script priority
-abbrev pub script_rules : Tables → Option (List ℕ) → Reached → Reached
-script_rules F first r =
-    first_of
-    (without_subdivision r ∷ without_variant r ∷ to_parent F r ∷ with_kept_region F first r ∷ [])
-    (without_region_left F first r)
-
--- the rules of a priority
-abbrev pub rules_of : LocaleFallbackPriority → Tables → Option (List ℕ) → Reached → Reached
-rules_of Language F first r = language_rules F first r
-rules_of Script F first r = script_rules F first r
-rules_of Region F first r = region_rules r
-
--- one step in a priority; the unknown locale is never left
+-- one step in a priority
 abbrev pub step_of : LocaleFallbackPriority → Tables → Option (List ℕ) → Reached → Reached
-step_of priority F first r =
-    if is_unknown r.locale then r else rules_of priority F first r
+step_of priority F first r = step_by (rule priority F r.locale) F first r
 
 -- at a locale, with nothing kept
 abbrev pub at_rest : Locale → Reached

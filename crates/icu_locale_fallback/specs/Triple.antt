@@ -1,11 +1,11 @@
 -- The language, script and region of a locale, by which inheritance goes (UTS 35, parent locales).
-use Rattle.std.specs.Prelude.{ℕ, List, Option, None, refl}
+use Rattle.std.specs.Prelude.{ℕ, List, Option, refl}
 use Rattle.std.specs.Coded.{Coded, code_by, coded×, coded_ℕ, coded_list, coded_option}
 use Rattle.std.specs.declared.cmp.Ordering.{Ordering}
-use Rattle.std.specs.Ordering.{nat_cmp, ordering_then}
+use Rattle.std.specs.Ordering.{ordering_then}
 use Rattle.std.specs.Option.{option_cmp}
-use Rattle.std.specs.Cmp.Lexicographic.{slice_cmp}
 use Rattle.icu_locale_core.specs.Locale.{Locale}
+use Rattle.icu_locale_fallback.specs.Keys.{text_cmp}
 
 -- language, script and region
 pub record Triple : Type 0 where
@@ -18,16 +18,12 @@ abbrev pub triple_of : Locale → Triple
 triple_of locale =
     record { language = locale.language; script = locale.script; region = locale.region }
 
--- the triple of a language alone
-abbrev pub language_alone : List ℕ → Triple
-language_alone language = record { language = language; script = None; region = None }
-
 -- triples in the order of their texts, the language first; an absent text stands first
 abbrev pub triple_cmp : Triple → Triple → Ordering
 triple_cmp a b =
-    ordering_then (slice_cmp nat_cmp a.language b.language)
-    (ordering_then (option_cmp (slice_cmp nat_cmp) a.script b.script)
-    (option_cmp (slice_cmp nat_cmp) a.region b.region))
+    ordering_then (text_cmp a.language b.language)
+    (ordering_then (option_cmp text_cmp a.script b.script)
+    (option_cmp text_cmp a.region b.region))
 
 -- a triple is stored as its three texts
 abbrev pub triple_code : Coded Triple

@@ -1,5 +1,5 @@
 -- What the views of a fallbacker, and a walk over it, stand for.
-use Rattle.std.specs.Prelude.{◌≡◌, ℕ, List, Option, Bool, is_some, unwrap_or}
+use Rattle.std.specs.Prelude.{◌≡◌, ℕ, List, Option}
 use Rattle.icu_locale_core.specs.Locale.{Locale}
 use Rattle.icu_locale_fallback.specs.declared.config.LocaleFallbackConfig.{LocaleFallbackConfig}
 use Rattle.icu_locale_fallback.specs.declared.config.LocaleFallbackPriority.{LocaleFallbackPriority}
@@ -10,7 +10,7 @@ use Rattle.icu_locale_fallback.specs.declared.iterator.LocaleFallbackIterator.{L
 use Rattle.icu_locale_fallback.specs.Normal.{first_script}
 use Rattle.icu_locale_fallback.specs.Steps.{Reached, start, step_of}
 use Rattle.icu_locale_fallback.specs.Tables.{Tables}
-use Rattle.icu_locale_fallback.specs.Walk.{Point, next}
+use Rattle.icu_locale_fallback.specs.Walk.{next}
 
 -- the tables that a view shows
 abbrev pub viewed : LocaleFallbackerBorrowed → Tables
@@ -60,22 +60,11 @@ begun F priority l =
 abbrev pub stepped : Walk → Walk
 stepped w = record w { reached = step_of w.priority w.tables w.first w.reached }
 
--- the point of the walk that `next` makes
-abbrev pub point_of : Reached → Point
-point_of r = record { locale = r.locale; kept = r.kept_variant }
-
 -- in the language priority a walk goes by `next`
 abbrev pub GoesByNext : Walk → Walk → Type 0
 GoesByNext old new =
-    old.priority ≡ Language
-    → point_of new.reached ≡ next old.tables old.first old.reached.locale old.reached.kept_variant
+    old.priority ≡ Language → new.reached ≡ next old.tables old.first old.reached
 
--- a walk went on by a rule
+-- a walk went on to where this leads
 abbrev pub Goes : (Walk → Reached) → Walk → Walk → Type 0
-Goes rule old new = new ≡ record old { reached = rule old }
-
--- A rule was tried on a walk: where it applies the walk went on by it, else it stayed, and the
--- answer says which.
-pub record Tries (rule : Walk → Option Reached) (old new : Walk) (answer : Bool) : Type 0 where
-  pub applies : answer ≡ is_some (rule old)
-  pub goes : Goes (λ w. unwrap_or (rule w) w.reached) old new
+Goes leads old new = new ≡ record old { reached = leads old }

@@ -1,10 +1,12 @@
 ghost use Rattle.std.specs.Prelude.{◌≡◌};
 ghost use Rattle.icu_locale_core.specs.Locale.{unknown};
-ghost use Rattle.icu_locale_fallback.specs.Steps.{at_rest, has_language, language_rules, region_rules, script_rules, to_first_script, to_parent, to_unknown_language, with_kept_region, without_likely_script, without_region, without_region_left, without_script, without_subdivision, without_variant};
-ghost use Rattle.icu_locale_fallback.specs.Views.{Goes, GoesByNext, Tries, stepped, walk_of};
+ghost use Rattle.icu_locale_fallback.specs.Steps.{at_rest, first_of, has_language, has_likely_script, own_rules, parent_rule, region_dropped, rule, step_by, to_first_script, without_language, without_likely_script};
+ghost use Rattle.icu_locale_fallback.specs.Views.{Goes, GoesByNext, stepped, walk_of};
+ghost use Rattle.icu_locale_fallback.specs.declared.config.LocaleFallbackPriority.TheVariants.{Language as ByLanguage, Region as ByRegion, Script as ByScript};
 
 use crate::LocaleFallbackPriority;
 use crate::fallbacker::LocaleFallbacker;
+use crate::rule::Rule;
 use crate::triple::Triple;
 use icu_locale_core::{DataLocale, Language, Region, Script, Subtag, Variant};
 
@@ -68,139 +70,138 @@ impl<'a> LocaleFallbackIterator<'a> {
         ensures fixed { (walk_of self.old).reached.locale ≡ unknown
             → walk_of result.now ≡ walk_of self.old }
     {
-        if !self.locale.is_unknown() {
-            match self.priority {
-                LocaleFallbackPriority::Language => self.step_by_language(),
-                LocaleFallbackPriority::Script => self.step_by_script(),
-                LocaleFallbackPriority::Region => self.step_by_region(),
-            }
-        }
+        self.go_on();
         self
     }
 
-    /// The language priority: the first rule that applies.
-    fn step_by_language(&mut self)
-        ensures { Goes (λ w. language_rules w.tables w.first w.reached)
-            (walk_of self.old) (walk_of self.new) }
+    /// The first rule that applies.
+    fn rule(&self) -> Rule
+        ensures { result ≡ rule (walk_of self.now).priority (walk_of self.now).tables
+            (walk_of self.now).reached.locale }
     {
-        if self.drop_subdivision() {
-            return;
+        if self.locale.is_unknown() {
+            return Rule::Stay;
         }
-        if self.drop_variant() {
-            return;
+        if self.locale.subdivision.is_some() {
+            return Rule::DropSubdivision;
         }
-        if self.go_to_parent() {
-            return;
+        if self.locale.variant.is_some() {
+            return Rule::DropVariant;
         }
-        if self.drop_region() {
-            return;
+        match self.priority {
+            LocaleFallbackPriority::Language => self.rule_for_language(),
+            LocaleFallbackPriority::Script => self.rule_for_script(),
+            LocaleFallbackPriority::Region => self.rule_for_region(),
         }
-        self.drop_language();
     }
 
-    /// The region priority: the first rule that applies.
-    fn step_by_region(&mut self)
-        ensures { Goes (λ w. region_rules w.reached) (walk_of self.old) (walk_of self.new) }
+    /// The first of the language priority's own rules that applies.
+    fn rule_for_language(&self) -> Rule
+        ensures { result ≡ first_of
+            (own_rules ByLanguage (walk_of self.now).tables (walk_of self.now).reached.locale) }
     {
-        if self.drop_subdivision() {
-            return;
+        if let Some(rule) = self.rule_to_parent() {
+            return rule;
         }
-        if self.drop_variant() {
-            return;
+        if self.locale.region.is_some() {
+            return Rule::DropRegion;
         }
+        Rule::DropLanguage
+    }
+
+    /// The first of the script priority's own rules that applies.
+    fn rule_for_script(&self) -> Rule
+        ensures { result ≡ first_of
+            (own_rules ByScript (walk_of self.now).tables (walk_of self.now).reached.locale) }
+    {
+        if let Some(rule) = self.rule_to_parent() {
+            return rule;
+        }
+        if self.locale.region.is_some() {
+            return Rule::KeepRegion;
+        }
+        if self.has_likely_script() {
+            return Rule::DropLikelyScript;
+        }
+        if self.has_language() {
+            return Rule::GoToFirstScript;
+        }
+        Rule::DropScript
+    }
+
+    /// The first of the region priority's own rules that applies.
+    fn rule_for_region(&self) -> Rule
+        ensures { result ≡ first_of
+            (own_rules ByRegion (walk_of self.now).tables (walk_of self.now).reached.locale) }
+    {
         if self.has_language() || self.locale.script.is_some() {
-            if self.locale.region.is_some() {
-                self.locale.variant = self.kept_variant.take();
-                self.locale.subdivision = self.kept_subdivision.take();
-            }
-            self.drop_language();
-        } else {
-            self.locale.region = None;
+            return Rule::DropLanguage;
         }
+        Rule::DropLastRegion
     }
 
-    /// The script priority: the first rule that applies.
-    fn step_by_script(&mut self)
-        ensures { Goes (λ w. script_rules w.tables w.first w.reached)
-            (walk_of self.old) (walk_of self.new) }
-    {
-        if self.drop_subdivision() {
-            return;
-        }
-        if self.drop_variant() {
-            return;
-        }
-        if self.go_to_parent() {
-            return;
-        }
-        if self.keep_region() {
-            return;
-        }
-        self.step_without_region();
-    }
-
-    /// The last rules of the script priority.
-    fn step_without_region(&mut self)
-        ensures { Goes (λ w. without_region_left w.tables w.first w.reached)
-            (walk_of self.old) (walk_of self.new) }
-    {
-        if self.drop_likely_script() {
-            return;
-        }
-        if self.go_to_first_script() {
-            return;
-        }
-        self.drop_script();
-    }
-
-    /// Drops a subdivision, and keeps it.
-    fn drop_subdivision(&mut self) -> bool
-        ensures { Tries (λ w. without_subdivision w.reached)
-            (walk_of self.old) (walk_of self.new) result }
-    {
-        if self.locale.subdivision.is_none() {
-            return false;
-        }
-        self.kept_subdivision = self.locale.subdivision.take();
-        true
-    }
-
-    /// Drops a variant, and keeps it.
-    fn drop_variant(&mut self) -> bool
-        ensures { Tries (λ w. without_variant w.reached)
-            (walk_of self.old) (walk_of self.new) result }
-    {
-        if self.locale.variant.is_none() {
-            return false;
-        }
-        self.kept_variant = self.locale.variant.take();
-        true
-    }
-
-    /// Goes to the parent, where there is one.
-    fn go_to_parent(&mut self) -> bool
-        ensures { Tries (λ w. to_parent w.tables w.reached)
-            (walk_of self.old) (walk_of self.new) result }
+    /// The rule that goes to the parent, where there is one.
+    fn rule_to_parent(&self) -> Option<Rule>
+        ensures { result
+            ≡ parent_rule (walk_of self.now).tables (walk_of self.now).reached.locale }
     {
         let child = Triple::of(&self.locale);
-        let Some(parent) = self.fallbacker.parents().get(child) else {
-            return false;
-        };
-        self.locale.language = parent.language;
-        self.locale.script = parent.script;
-        self.locale.region = parent.region;
-        self.locale.variant = self.kept_variant.take();
-        true
+        let parent = self.fallbacker.parents().get(child)?;
+        Some(Rule::GoToParent(parent))
+    }
+
+    /// Whether the language is known.
+    fn has_language(&self) -> bool
+        ensures { result ≡ has_language (walk_of self.now).reached.locale }
+    {
+        !self.locale.language.is_unknown()
+    }
+
+    /// Whether there are a language and the script that it most likely has.
+    fn has_likely_script(&self) -> bool
+        ensures { result
+            ≡ has_likely_script (walk_of self.now).tables (walk_of self.now).reached.locale }
+    {
+        let likely = self
+            .fallbacker
+            .likely_subtags()
+            .script(self.locale.language);
+        self.has_language() && self.locale.script.is_some() && self.locale.script == likely
+    }
+
+    /// Goes on by the first rule that applies.
+    fn go_on(&mut self)
+        ensures { walk_of self.new ≡ stepped (walk_of self.old) }
+    {
+        match self.rule() {
+            Rule::Stay => {}
+            Rule::DropSubdivision => self.kept_subdivision = self.locale.subdivision.take(),
+            Rule::DropVariant => self.kept_variant = self.locale.variant.take(),
+            Rule::GoToParent(parent) => {
+                self.locale.language = parent.language;
+                self.locale.script = parent.script;
+                self.locale.region = parent.region;
+                self.locale.variant = self.kept_variant.take();
+            }
+            Rule::DropRegion => self.drop_region(),
+            Rule::KeepRegion => {
+                let region = self.locale.region;
+                self.drop_region();
+                self.kept_region = region;
+            }
+            Rule::DropLanguage => self.drop_language(),
+            Rule::DropLastRegion => self.locale.region = None,
+            Rule::DropLikelyScript => self.drop_likely_script(),
+            Rule::GoToFirstScript => self.go_to_first_script(),
+            Rule::DropScript => self.locale.script = None,
+        }
     }
 
     /// Drops the region, for the script that the locale then has.
-    fn drop_region(&mut self) -> bool
-        ensures { Tries (λ w. without_region w.tables w.first w.reached)
-            (walk_of self.old) (walk_of self.new) result }
+    fn drop_region(&mut self)
+        ensures { Goes (λ w. region_dropped w.tables w.first w.reached)
+            (walk_of self.old) (walk_of self.new) }
     {
-        if self.locale.region.is_none() {
-            return false;
-        }
         let likely = self
             .fallbacker
             .likely_subtags()
@@ -212,78 +213,42 @@ impl<'a> LocaleFallbackIterator<'a> {
         };
         self.locale.region = None;
         self.locale.variant = self.kept_variant.take();
-        true
     }
 
-    /// Drops the region, and keeps it.
-    fn keep_region(&mut self) -> bool
-        ensures { Tries (λ w. with_kept_region w.tables w.first w.reached)
-            (walk_of self.old) (walk_of self.new) result }
-    {
-        let region = self.locale.region;
-        if !self.drop_region() {
-            return false;
-        }
-        self.kept_region = region;
-        true
-    }
-
-    /// Drops language and script.
+    /// Drops language and script; where there is a region, variant and subdivision come back.
     fn drop_language(&mut self)
-        ensures { Goes (λ w. to_unknown_language w.reached) (walk_of self.old) (walk_of self.new) }
+        ensures { Goes (λ w. without_language w.reached) (walk_of self.old) (walk_of self.new) }
     {
         self.locale.language = Language::unknown();
         self.locale.script = None;
+        if self.locale.region.is_some() {
+            self.locale.variant = self.kept_variant.take();
+            self.locale.subdivision = self.kept_subdivision.take();
+        }
     }
 
-    /// Drops the script.
-    fn drop_script(&mut self)
-        ensures { Goes (λ w. without_script w.reached) (walk_of self.old) (walk_of self.new) }
+    /// Drops the script; where a region is kept, it comes back with all that is kept.
+    fn drop_likely_script(&mut self)
+        ensures { Goes (λ w. without_likely_script w.reached)
+            (walk_of self.old) (walk_of self.new) }
     {
         self.locale.script = None;
-    }
-
-    /// Drops a script that the language most likely has; what was kept comes back with the region.
-    fn drop_likely_script(&mut self) -> bool
-        ensures { Tries (λ w. without_likely_script w.tables w.reached)
-            (walk_of self.old) (walk_of self.new) result }
-    {
-        let likely = self
-            .fallbacker
-            .likely_subtags()
-            .script(self.locale.language);
-        if !self.has_language() || self.locale.script.is_none() || self.locale.script != likely {
-            return false;
-        }
-        self.drop_script();
         if self.kept_region.is_some() {
             self.locale.region = self.kept_region.take();
             self.locale.variant = self.kept_variant.take();
             self.locale.subdivision = self.kept_subdivision.take();
         }
-        true
     }
 
-    /// Drops the language for the first script.
-    fn go_to_first_script(&mut self) -> bool
-        ensures { Tries (λ w. to_first_script w.first w.reached)
-            (walk_of self.old) (walk_of self.new) result }
+    /// Drops the language for the first script; where there is one, the variant comes back.
+    fn go_to_first_script(&mut self)
+        ensures { Goes (λ w. to_first_script w.first w.reached)
+            (walk_of self.old) (walk_of self.new) }
     {
-        if !self.has_language() {
-            return false;
-        }
         self.locale.language = Language::unknown();
         self.locale.script = self.first_script;
         if self.first_script.is_some() {
             self.locale.variant = self.kept_variant.take();
         }
-        true
-    }
-
-    /// Whether the language is known.
-    fn has_language(&self) -> bool
-        ensures { result ≡ has_language (walk_of self.now).reached.locale }
-    {
-        !self.locale.language.is_unknown()
     }
 }

@@ -21,12 +21,14 @@
 //!
 //! - `config`: [`LocaleFallbackConfig`], what a walk holds on to longest.
 //! - `fallbacker`: [`LocaleFallbacker`], the tables that walks go by, and views of them.
-//! - `iterator`: [`LocaleFallbackIterator`], the walk and its rules.
+//! - `iterator`: [`LocaleFallbackIterator`], the walk.
 //! - `laws`: when a walk ends or repeats, and what rows have for faults.
 //! - `normal`: the locale that a walk begins with.
 //! - `provider`: the tables as a fallbacker holds them.
 //! - `rows`: [`FallbackRows`] and [`TableError`], the rows that tables are made from.
-//! - `table`, `triple`: a table, and the language, script and region that are its key.
+//! - `rule`: what one step of a walk does.
+//! - `table`: a table from its rows, and a look-up in one.
+//! - `triple`: the language, script and region by which a locale has a parent.
 #![tactic(auto)]
 
 mod config;
@@ -36,6 +38,7 @@ pub mod laws;
 mod normal;
 pub mod provider;
 mod rows;
+mod rule;
 mod table;
 mod triple;
 

@@ -16,68 +16,63 @@ pub(crate) fn normalized(
     ensures locale { result.0 ≡ normal likely.now priority locale.now }
     ensures script { result.1 ≡ first_script likely.now priority locale.now }
 {
-    let region = region_of(likely, priority, locale);
-    let default = default_of(likely, priority, locale, &region);
-    let script = but_default(&locale.script, &default);
-    let left = &script;
-    let first_script = left.or(default);
-    let subdivision = kept_subdivision(locale);
     let mut normal = *locale;
-    normal.script = script;
-    normal.region = region;
-    normal.subdivision = subdivision;
-    (normal, first_script)
+    normal.subdivision = kept_subdivision(*locale);
+    normal.region = region_of(likely, priority, *locale);
+    let default = default_of(likely, priority, &normal);
+    let script = &but_default(locale.script, &default);
+    normal.script = *script;
+    (normal, script.or(default))
 }
 
 /// The subdivision of a locale, where it is one of the region.
-fn kept_subdivision(locale: &DataLocale) -> Option<Subtag>
-    ensures { result ≡ kept_subdivision locale.now }
+fn kept_subdivision(locale: DataLocale) -> Option<Subtag>
+    ensures { result ≡ kept_subdivision locale }
 {
     let region = locale.region?;
-    let subdivision = locale.subdivision?;
-    if belongs(&subdivision, &region) {
-        Some(subdivision)
-    } else {
-        None
-    }
+    locale
+        .subdivision
+        .filter(|subdivision| belongs(subdivision, &region))
 }
 
 /// The region of a locale; where there is none, the region priority takes the likely one.
 fn region_of(
     likely: &LikelySubtagsForLanguage,
     priority: LocaleFallbackPriority,
-    locale: &DataLocale,
+    locale: DataLocale,
 ) -> Option<Region>
-    ensures { result ≡ region_of likely.now priority locale.now }
+    ensures { result ≡ region_of likely.now priority locale }
 {
-    if locale.region.is_none() && priority == LocaleFallbackPriority::Region {
-        likely.region(locale.language, locale.script)
-    } else {
-        locale.region
+    match priority {
+        LocaleFallbackPriority::Region => {
+            let region = likely.region(locale.language, locale.script);
+            locale.region.or(region)
+        }
+        LocaleFallbackPriority::Language | LocaleFallbackPriority::Script => locale.region,
     }
 }
 
-/// The default script of a locale with this region, where one is looked up.
+/// The default script of a locale, where one is looked up.
 fn default_of(
     likely: &LikelySubtagsForLanguage,
     priority: LocaleFallbackPriority,
     locale: &DataLocale,
-    region: &Option<Region>,
 ) -> Option<Script>
-    ensures { result ≡ default_of likely.now priority locale.now region.now }
+    ensures { result ≡ default_of likely.now priority locale.now locale.now.region }
 {
-    if locale.script.is_some() || region.is_some() || priority == LocaleFallbackPriority::Script {
-        likely.default_script(locale.language, *region)
+    let has_either = locale.script.is_some() || locale.region.is_some();
+    if has_either || priority == LocaleFallbackPriority::Script {
+        likely.default_script(locale.language, locale.region)
     } else {
         None
     }
 }
 
 /// The script, but for one that is the default.
-fn but_default(script: &Option<Script>, default: &Option<Script>) -> Option<Script>
-    ensures { result ≡ but_default script.now default.now }
+fn but_default(script: Option<Script>, default: &Option<Script>) -> Option<Script>
+    ensures { result ≡ but_default script default.now }
 {
-    if script == default { None } else { *script }
+    script.filter(|_| script != *default)
 }
 
 /// Whether the region's text, in lower case, begins the subdivision, which stands for no whole

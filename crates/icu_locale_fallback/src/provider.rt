@@ -5,10 +5,11 @@ ghost use Rattle.icu_locale_fallback.specs.Faults.{AreLikelyOf, AreParentsOf, Is
 ghost use Rattle.icu_locale_fallback.specs.Tables.{default_script, likely_region, likely_script, no_likely_subtags};
 
 use crate::rows::{FallbackRows, TableError};
-use crate::table::Table;
+use crate::table::{table_of_rows, value_at};
 use crate::triple::Triple;
 use icu_locale_core::{Language, Region, Script};
 use std::alloc::Global;
+use std::collections::BTreeMap;
 use std::marker::Model;
 
 /// The script and region that a language most likely has.
@@ -32,9 +33,9 @@ impl Model for Likely {
 /// (UTS 35, likely subtags).
 #[derive(Drop)]
 pub struct LikelySubtagsForLanguage {
-    language: Table<Likely>,
-    language_script: Table<Region>,
-    language_region: Table<Script>,
+    language: BTreeMap<Language, Likely>,
+    language_script: BTreeMap<(Language, Script), Region>,
+    language_region: BTreeMap<(Language, Region), Script>,
 }
 
 impl Model for LikelySubtagsForLanguage {
@@ -46,9 +47,9 @@ impl Model for LikelySubtagsForLanguage {
     ghost coded = { likely_subtags_code };
 
     ghost view = { λ a. record {
-      language = a.language;
-      language_script = a.language_script;
-      language_region = a.language_region;
+      language = map.from_entries a.language.entries;
+      language_script = map.from_entries a.language_script.entries;
+      language_region = map.from_entries a.language_region.entries;
     } };
 }
 
@@ -58,9 +59,9 @@ impl LikelySubtagsForLanguage {
         ensures { result ≡ no_likely_subtags }
     {
         LikelySubtagsForLanguage {
-            language: Table::new(alloc),
-            language_script: Table::new(alloc),
-            language_region: Table::new(alloc),
+            language: BTreeMap::new(alloc),
+            language_script: BTreeMap::new(alloc),
+            language_region: BTreeMap::new(alloc),
         }
     }
 
@@ -72,9 +73,9 @@ impl LikelySubtagsForLanguage {
         ensures ok { IfOk result (AreLikelyOf rows.now) }
         ensures err { IfErr result (IsLikelyFault rows.now) }
     {
-        let language = Table::of_rows(alloc, 0, rows.likely_language.as_slice())?;
-        let language_script = Table::of_rows(alloc, 1, rows.likely_language_script.as_slice())?;
-        let language_region = Table::of_rows(alloc, 2, rows.likely_language_region.as_slice())?;
+        let language = table_of_rows(alloc, 0, rows.likely_language.as_slice())?;
+        let language_script = table_of_rows(alloc, 1, rows.likely_language_script.as_slice())?;
+        let language_region = table_of_rows(alloc, 2, rows.likely_language_region.as_slice())?;
         Ok(LikelySubtagsForLanguage {
             language,
             language_script,
@@ -86,7 +87,7 @@ impl LikelySubtagsForLanguage {
     pub(crate) fn script(&self, language: Language) -> Option<Script>
         ensures { result ≡ likely_script self.now language }
     {
-        let row = self.language.get(Triple::of_language(language))?;
+        let row = value_at(&self.language, &language)?;
         Some(row.script)
     }
 
@@ -94,17 +95,12 @@ impl LikelySubtagsForLanguage {
     pub(crate) fn region(&self, language: Language, script: Option<Script>) -> Option<Region>
         ensures { result ≡ likely_region self.now language script }
     {
-        if script.is_some() {
-            let key = Triple {
-                language,
-                script,
-                region: None,
-            };
-            if let Some(region) = self.language_script.get(key) {
+        if let Some(script) = script {
+            if let Some(region) = value_at(&self.language_script, &(language, script)) {
                 return Some(region);
             }
         }
-        let row = self.language.get(Triple::of_language(language))?;
+        let row = value_at(&self.language, &language)?;
         Some(row.region)
     }
 
@@ -116,13 +112,8 @@ impl LikelySubtagsForLanguage {
     ) -> Option<Script>
         ensures { result ≡ default_script self.now language region }
     {
-        if region.is_some() {
-            let key = Triple {
-                language,
-                script: None,
-                region,
-            };
-            if let Some(script) = self.language_region.get(key) {
+        if let Some(region) = region {
+            if let Some(script) = value_at(&self.language_region, &(language, region)) {
                 return Some(script);
             }
         }
@@ -133,10 +124,11 @@ impl LikelySubtagsForLanguage {
 /// The parents of locales (UTS 35, parent locales).
 #[derive(Drop)]
 pub struct Parents {
-    rows: Table<Triple>,
+    rows: BTreeMap<Triple, Triple>,
 }
 
 impl Model for Parents {
+    ghost use Rattle.std.specs.Prelude.{◌≡◌, length};
     ghost use Rattle.std.specs.FinMap as map;
     ghost use Rattle.icu_locale_fallback.specs.Triple.{Triple as TripleOf, triple_cmp, triple_code};
 
@@ -144,7 +136,10 @@ impl Model for Parents {
 
     ghost coded = { map.code triple_code triple_code };
 
-    ghost view = { λ a. a.rows };
+    ghost view = { λ a. map.from_entries a.rows.entries };
+
+    ghost invariant = { λ a. map.len (map.from_entries {R = triple_cmp} a.rows.entries)
+        ≡ length a.rows.entries };
 }
 
 impl Parents {
@@ -153,7 +148,7 @@ impl Parents {
         ensures { result ≡ map.empty }
     {
         Parents {
-            rows: Table::new(alloc),
+            rows: BTreeMap::new(alloc),
         }
     }
 
@@ -163,7 +158,7 @@ impl Parents {
         ensures err { IfErr result (IsParentsFault rows.now) }
     {
         Ok(Parents {
-            rows: Table::of_rows(alloc, 3, rows.parents.as_slice())?,
+            rows: table_of_rows(alloc, 3, rows.parents.as_slice())?,
         })
     }
 
@@ -178,6 +173,6 @@ impl Parents {
     pub(crate) fn get(&self, child: Triple) -> Option<Triple>
         ensures { result ≡ map.get self.now child }
     {
-        self.rows.get(child)
+        value_at(&self.rows, &child)
     }
 }

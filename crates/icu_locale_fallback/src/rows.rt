@@ -1,10 +1,11 @@
 ghost use Rattle.std.specs.Prelude.{MatchOption};
+ghost use Rattle.std.specs.FinMap.{IsAntisymmetric};
 ghost use Rattle.std.specs.Option.{SomeIff};
 ghost use Rattle.icu_locale_core.specs.Shapes.{IsLanguage, IsRegion, IsScript};
 ghost use Rattle.writeable_core.specs.declared.text.TextRow.{TextRow};
 ghost use Rattle.icu_locale_fallback.specs.Cells.{PrintsAs, PrintsNone};
+ghost use Rattle.icu_locale_fallback.specs.KeyLaws.{pairs_tie, texts_tie, triples_tie};
 ghost use Rattle.icu_locale_fallback.specs.Rows.{ChildKey, LanguageKey, LanguageRegionKey, LanguageScriptKey, LikelyValue, ParentValue, RegionValue, ScriptValue};
-ghost use Rattle.icu_locale_fallback.specs.Triple.{Triple as TripleOf};
 
 use crate::provider::Likely;
 use crate::triple::Triple;
@@ -54,29 +55,69 @@ impl TableError {
     }
 }
 
-/// The values of a table, read from its rows.
-pub(crate) trait Row: Copy {
-    ghost key_is: { TextRow → TripleOf → Type 0 };
-
-    ghost value_is: { TextRow → Self → Type 0 };
+/// The key of a table, read from its rows.
+pub(crate) trait RowKey: Copy + Ord {
+    ghost key_is: { TextRow → Self → Type 0 };
 
     /// The key of a row.
-    fn key(row: &TextRow) -> Option<Triple>
+    fn key(row: &TextRow) -> Option<Self>
         ensures { MatchOption result ((k : _) → ¬ (key_is row.now k)) (key_is row.now) };
+
+    /// Keys that compare equal are the same.
+    ghost ties_same: { IsAntisymmetric Self.Ord.cmp };
+}
+
+impl RowKey for Language {
+    ghost key_is = { LanguageKey };
+
+    fn key(row: &TextRow) -> Option<Language> {
+        language(&row.first)
+    }
+
+    ghost ties_same = { texts_tie };
+}
+
+impl RowKey for (Language, Script) {
+    ghost key_is = { LanguageScriptKey };
+
+    fn key(row: &TextRow) -> Option<(Language, Script)> {
+        Some((language(&row.first)?, script(&row.second)?))
+    }
+
+    ghost ties_same = { pairs_tie };
+}
+
+impl RowKey for (Language, Region) {
+    ghost key_is = { LanguageRegionKey };
+
+    fn key(row: &TextRow) -> Option<(Language, Region)> {
+        Some((language(&row.first)?, region(&row.second)?))
+    }
+
+    ghost ties_same = { pairs_tie };
+}
+
+impl RowKey for Triple {
+    ghost key_is = { ChildKey };
+
+    fn key(row: &TextRow) -> Option<Triple> {
+        triple(&row.first)
+    }
+
+    ghost ties_same = { triples_tie };
+}
+
+/// The value of a table, read from its rows.
+pub(crate) trait RowValue: Copy {
+    ghost value_is: { TextRow → Self → Type 0 };
 
     /// The value of a row.
     fn value(row: &TextRow) -> Option<Self>
         ensures { MatchOption result ((v : _) → ¬ (value_is row.now v)) (value_is row.now) };
 }
 
-impl Row for Likely {
-    ghost key_is = { LanguageKey };
-
+impl RowValue for Likely {
     ghost value_is = { LikelyValue };
-
-    fn key(row: &TextRow) -> Option<Triple> {
-        Some(Triple::of_language(language(&row.first)?))
-    }
 
     fn value(row: &TextRow) -> Option<Likely> {
         Some(Likely {
@@ -86,50 +127,24 @@ impl Row for Likely {
     }
 }
 
-impl Row for Region {
-    ghost key_is = { LanguageScriptKey };
-
+impl RowValue for Region {
     ghost value_is = { RegionValue };
-
-    fn key(row: &TextRow) -> Option<Triple> {
-        Some(Triple {
-            language: language(&row.first)?,
-            script: Some(script(&row.second)?),
-            region: None,
-        })
-    }
 
     fn value(row: &TextRow) -> Option<Region> {
         region(&row.third)
     }
 }
 
-impl Row for Script {
-    ghost key_is = { LanguageRegionKey };
-
+impl RowValue for Script {
     ghost value_is = { ScriptValue };
-
-    fn key(row: &TextRow) -> Option<Triple> {
-        Some(Triple {
-            language: language(&row.first)?,
-            script: None,
-            region: Some(region(&row.second)?),
-        })
-    }
 
     fn value(row: &TextRow) -> Option<Script> {
         script(&row.third)
     }
 }
 
-impl Row for Triple {
-    ghost key_is = { ChildKey };
-
+impl RowValue for Triple {
     ghost value_is = { ParentValue };
-
-    fn key(row: &TextRow) -> Option<Triple> {
-        triple(&row.first)
-    }
 
     fn value(row: &TextRow) -> Option<Triple> {
         triple(&row.second)

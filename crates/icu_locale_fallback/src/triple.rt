@@ -1,11 +1,11 @@
 ghost use Rattle.std.specs.Prelude.{◌≡◌, MatchOption};
 ghost use Rattle.icu_locale_fallback.specs.Cells.{IsLocaleOf, IsLocaleOfNone};
-ghost use Rattle.icu_locale_fallback.specs.Triple.{language_alone, triple_of};
+ghost use Rattle.icu_locale_fallback.specs.Triple.{triple_of};
 
 use icu_locale_core::{DataLocale, Language, Region, Script};
 use std::marker::Model;
 
-/// The subtags of a locale that inheritance goes by, and the key of each table.
+/// The subtags of a locale that inheritance goes by.
 #[derive(Clone, Copy, Debug, PartialEq, Eq, PartialOrd, Ord)]
 pub(crate) struct Triple {
     pub language: Language,
@@ -43,16 +43,5 @@ impl Triple {
             return None;
         }
         Some(Triple::of(locale))
-    }
-
-    /// A language alone.
-    pub fn of_language(language: Language) -> Triple
-        ensures { result ≡ language_alone language }
-    {
-        Triple {
-            language,
-            script: None,
-            region: None,
-        }
     }
 }
