@@ -1,5 +1,5 @@
 -- The two pairs of sections and the last are in their case.
-use Rattle.std.proofs.Common.{◌≡◌, true, false, sym, ap, ◌∙◌, arith}
+use Rattle.std.proofs.Common.{◌≡◌, true, false, sym, ◌∙◌, arith}
 use Rattle.language_tags_grammar.specs.Case.{capital}
 use Rattle.language_tags_grammar.proofs.TextLaws.{FirstPair, SecondPair, pairs_there, there_pairs}
 use Rattle.language_tags_grammar.proofs.texts.is_in_case.Goals as goal
@@ -11,9 +11,9 @@ returns-then-is_cased-2 c =
     let t = c.args.text.now in
     let cap : c.min-capital.result ≡ capital ends = omega arith in
     let both : FirstPair ends t c.requires.script c.requires.region c.min-capital.result cap
-        × SecondPair ends t c.requires.script c.requires.region c.min-capital.result cap =
+    × SecondPair ends t c.requires.script c.requires.region c.min-capital.result cap =
     elim c.if-is_cased.branch [
-      then-is_cased w ↦ (c.is_cased.ensures.0 w.if-is_cased.true, w.is_cased-then-is_cased.ensures.0 (sym w.value-is ∙ c.if-is_cased-2.true))
+      | then-is_cased w ↦ (c.is_cased.ensures.0 w.if-is_cased.true, w.is_cased-then-is_cased.ensures.0 (sym w.value-is ∙ c.if-is_cased-2.true))
       | else-is_cased w ↦ absurd (let clash : true ≡ false = sym c.if-is_cased-2.true ∙ w.value-is ∙ w.if-is_cased.false in cc)
     ] in (
       λ yes. pairs_there ends t c.requires.script c.requires.region c.min-capital.result cap both.0 both.1 (c.is_in_lowercase.ensures.0 yes),
@@ -29,7 +29,7 @@ returns-else-is_cased-2 c =
       λ is.
           let all = there_pairs ends t c.requires.script c.requires.region c.min-capital.result cap is in
           elim c.if-is_cased.branch [
-            then-is_cased w ↦ w.value-is ∙ w.is_cased-then-is_cased.ensures.1 all.1
+            | then-is_cased w ↦ w.value-is ∙ w.is_cased-then-is_cased.ensures.1 all.1
             | else-is_cased w ↦ absurd (let clash : true ≡ false = sym (c.is_cased.ensures.1 all.0) ∙ w.if-is_cased.false in cc)
           ],
     )

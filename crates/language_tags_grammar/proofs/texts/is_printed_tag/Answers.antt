@@ -18,7 +18,7 @@ returns-in-Some c =
 pub returns-then-is_ok : goal.returns-then-is_ok
 returns-then-is_ok c =
     let both = private_print c.args.text.now (lowercase c.in-Some-behind_x.rest.now) c.check.result (sym c.in_default.ensures)
-        c.in-Some-behind_x.ensures c.check.ensures (sym c.is_ok.ensures.value ∙ c.if-is_ok.true) in
+    c.in-Some-behind_x.ensures c.check.ensures (sym c.is_ok.ensures.value ∙ c.if-is_ok.true) in
     let same = c.as_bytes.ensures.value in (
       λ yes. both.0 (sym (ap lowercase same) ∙ c.is_in_lowercase.ensures.0 yes ∙ same),
       λ is. c.is_in_lowercase.ensures.1 (ap lowercase same ∙ both.1 is ∙ sym same),
