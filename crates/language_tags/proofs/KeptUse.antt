@@ -21,7 +21,7 @@ use Rattle.language_tags_grammar.specs.Shapes.{is_extlang, is_private, is_varian
 use Rattle.language_tags_grammar.specs.Tag.{Extension, Parts, Tag, Whole, Plain, at_most_one, extension_pieces, extensions_of, extlangs_of, front_of, full_language_of, language_of, print, private_of, private_pieces, region_of, script_of, variants_of, written}
 use Rattle.language_tags_grammar.specs.TagFault.{IsFaultOfPieces}
 use Rattle.language_tags_grammar.specs.declared.ends.Ends.{Ends}
-use Rattle.language_tags_grammar.proofs.CaseLaws.{in_case-parts, scanned-ends, scanned-text, small, small-ends}
+use Rattle.language_tags_grammar.proofs.ScannedText.{begins-x, first-clean, pieces-part_text, rest-clean}
 use Rattle.language_tags_grammar.proofs.Faults.{Scanned, scanned_law}
 use Rattle.language_tags_grammar.proofs.KeptLaws.{AreClean, E, IsClean, P, R, S, T, V, X, at-extensions, at-extlangs, at-language, at-private, at-region, at-script, at-variants, dashed-append, each-clean, joined-dashed, keeps, parts_at-text, pieces-dashed, pieces-print, print-ascii, smalls-clean, text-parts}
 use Rattle.language_tags_grammar.proofs.PartsLaws.{extlang-small, private-small, variant-small, written-lowercase}

@@ -1,3 +1,4 @@
 mod PartLaws
 mod AgreeLaws
 mod KeptUse
+mod ExtensionLaws

@@ -3,13 +3,13 @@ ghost use Rattle.std.specs.List.{flat_map, list_all};
 ghost use Rattle.std.specs.Option.{option_copied};
 ghost use Rattle.language_tags.specs.Equality.{Agree};
 
-use crate::case::{in_case, push_lowercase};
-use crate::ends::Ends;
-use crate::grandfathered::grandfathered;
 use crate::part::{front, part};
-use crate::private_use::{behind_x, check};
-use crate::scan::scan;
-use crate::{ParseError, SubtagsIter, TagJsonError};
+use crate::{ExtensionsIterator, ParseError, SubtagsIter, TagJsonError};
+use language_tags_grammar::case::{in_case, push_lowercase};
+use language_tags_grammar::ends::Ends;
+use language_tags_grammar::grandfathered::grandfathered;
+use language_tags_grammar::private_use::{behind_x, check};
+use language_tags_grammar::scan::scan;
 use serde_json::Value;
 use std::alloc::{AllocError, Global};
 use std::fmt;
@@ -261,6 +261,14 @@ impl LanguageTag {
     {
         let _ends = &self.ends;
         SubtagsIter::new(self.variant())
+    }
+
+    /// The extensions one by one, each its singleton and its content.
+    pub fn extension_subtags(&self) -> ExtensionsIterator<'_>
+        ensures { result ≡ extensions_of self.now }
+    {
+        let _ends = &self.ends;
+        ExtensionsIterator::new(self.extension())
     }
 
     /// The pieces of private use, without the `x`.
