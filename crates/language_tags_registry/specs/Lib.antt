@@ -1,0 +1,5 @@
+pub mod Registry
+pub mod Subtags
+pub mod Kinds
+pub mod Rows
+pub mod Faults
