@@ -50,12 +50,13 @@ impl<'a> Iterator for ExtensionsIterator<'a> {
 
     fn next(&mut self) -> Option<(char, &'a str)> {
         let text = self.rest.take()?;
+        let bytes = text.as_bytes();
         let mut pieces = SubtagsIter::new(Some(text));
         let first = pieces.next()?;
         let end = first.len() + content_length(pieces);
         self.rest = part(text, end, text.len());
         let content = part(text, first.len(), end)?;
-        Some((char::from(text.as_bytes()[0]), content))
+        Some((char::from(bytes[0]), content))
     }
 }
 
