@@ -1,6 +1,6 @@
 -- What each table asks of its keys and values.
-use Rattle.std.specs.Prelude.{◌≡◌, ℕ, List, [], Option, Some, None, Contains, IsTrue, length, slice_index_or}
-use Rattle.language_tags_grammar.specs.Grandfathered.{grandfathereds}
+use Rattle.std.specs.Prelude.{◌≡◌, ℕ, List, [], Option, Some, None, IsTrue, length, slice_index_or}
+use Rattle.language_tags_grammar.specs.Grandfathered.{is_grandfathered}
 use Rattle.language_tags_grammar.specs.Shapes.{is_extlang, is_variant}
 use Rattle.language_tags_grammar.specs.Tag.{Tag, print}
 use Rattle.language_tags_grammar.specs.TagOf.{IsTagOf}
@@ -28,7 +28,7 @@ Meets Extlang text = IsTrue (is_extlang text)
 Meets Script text = IsScript text
 Meets Region text = IsRegion text
 Meets Variant text = IsTrue (is_variant text)
-Meets Grandfathered text = Contains grandfathereds text
+Meets Grandfathered text = IsTrue (is_grandfathered text)
 Meets WellFormed text = IsWellFormed text
 Meets Printed text = IsPrinted text
 

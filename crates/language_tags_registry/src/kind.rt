@@ -1,15 +1,11 @@
 //! The tables of a registry by name, and what each asks of its rows.
-ghost use Rattle.std.specs.Prelude.{◌≡◌, ◌↔◌, IsTrue, option_copied};
+ghost use Rattle.std.specs.Prelude.{◌≡◌, ◌↔◌, IsTrue, encode_utf8_all, option_copied};
 ghost use Rattle.std.specs.Option.{SomeIff};
-ghost use Rattle.std.specs.Prelude.{Contains, encode_utf8_all};
-ghost use Rattle.language_tags_grammar.specs.Grandfathered.{grandfathereds};
-ghost use Rattle.writeable_core.specs.declared.text.TextRow.{TextRow};
 ghost use Rattle.language_tags_registry.specs.Kinds.{Meets, kind, kind_of};
-ghost use Rattle.language_tags_registry.specs.Rows.{HasValue, row_key, row_value};
+ghost use Rattle.language_tags_registry.specs.Rows.{HasValue, row_value};
 
 use crate::subtags::{is_extlang, is_language, is_region, is_script, is_variant};
-use crate::tags::{is_printed_tag, is_tag};
-use language_tags_grammar::GRANDFATHEREDS;
+use language_tags_grammar::{is_grandfathered, is_printed_tag, is_tag};
 use writeable_core::{OwnedText, TextRow};
 
 /// A table of a registry, in the order of their numbers, which begin at 0.
@@ -159,13 +155,6 @@ impl Rule {
             Rule::Printed => is_printed_tag(text),
         }
     }
-}
-
-/// Whether a text is a grandfathered tag in its spelling.
-fn is_grandfathered(text: &str) -> bool
-    ensures { IsTrue result ↔ Contains grandfathereds text.now }
-{
-    GRANDFATHEREDS.contains(&text)
 }
 
 /// The text of a cell, which contracts see as its bytes.

@@ -25,7 +25,6 @@ mod registry;
 mod rows;
 mod subtags;
 mod table;
-mod tags;
 
 pub use error::{RegistryError, SubtagError};
 pub use kind::RegistryTable;
