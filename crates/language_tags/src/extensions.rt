@@ -37,6 +37,13 @@ impl<'a> ExtensionsIterator<'a> {
     {
         ExtensionsIterator { rest: text }
     }
+
+    /// The extensions that are left, from here.
+    pub(crate) fn again(&self) -> ExtensionsIterator<'a>
+        ensures { result ≡ self.now }
+    {
+        ExtensionsIterator { rest: self.rest }
+    }
 }
 
 impl<'a> Iterator for ExtensionsIterator<'a> {

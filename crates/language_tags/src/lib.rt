@@ -12,18 +12,25 @@
 //!
 //! - `tag`: [`LanguageTag`], its parts, and what it matches.
 //! - `extensions`: [`ExtensionsIterator`], the extensions of a tag one by one.
-//! - `error`: [`TagJsonError`], why a JSON value is no tag.
+//! - `validity`: whether a tag is valid.
+//! - `error`: [`TagJsonError`], why a JSON value is no tag, and [`ValidationError`].
 //! - `part`: a part of a tag's text.
 //!
-//! The grammar stands in `language_tags_grammar`, which this crate passes on.
+//! The grammar stands in `language_tags_grammar`, and the registry in `language_tags_registry`; this
+//! crate passes them on.
 #![tactic(auto)]
 
 mod error;
 mod extensions;
 mod part;
 mod tag;
+mod validity;
 
-pub use error::TagJsonError;
+pub use error::{TagJsonError, ValidationError};
 pub use extensions::ExtensionsIterator;
 pub use language_tags_grammar::{GRANDFATHEREDS, ParseError, SubtagsIter, texts_and_tags};
+pub use language_tags_registry::{
+    LanguageSubtag, RegionSubtag, Registry, RegistryError, RegistryRows, RegistryTable,
+    ScriptSubtag, SubtagError,
+};
 pub use tag::LanguageTag;
