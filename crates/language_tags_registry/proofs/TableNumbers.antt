@@ -1,5 +1,5 @@
 -- The tables by their numbers.
-use Rattle.std.proofs.Common.{◌≡◌, ℕ, ◌<◌, List, [], ◌∷◌, Option, Some, get_or, refl, sym, ap, ◌∙◌, arith}
+use Rattle.std.proofs.Common.{◌≡◌, ℕ, zero, suc, ◌+◌, ◌<◌, length, List, [], ◌∷◌, Option, Some, get_or, refl, sym, ap, ◌∙◌, arith}
 use Rattle.std.specs.List.{slice_get}
 use Rattle.language_tags_registry.specs.Kinds.{kind_of}
 use Rattle.language_tags_registry.specs.Registry.{Entry, table_of, tables_at}
@@ -65,3 +65,22 @@ listed RedundantsPreferred = refl
 pub same_number : (a b : RegistryTable) → (kind_of a).number ≡ (kind_of b).number → a ≡ b
 same_number a b e =
     let both : Some a ≡ Some b = sym (listed a) ∙ ap (slice_get in_order) e ∙ listed b in cc
+
+-- tables with the numbers from n on
+abbrev AreNumbered : ℕ → List RegistryTable → Type 0
+AreNumbered n [] = Unit {0}
+AreNumbered n (table ∷ tables) = ((kind_of table).number ≡ n) × AreNumbered (suc n) tables
+
+in_order-AreNumbered : AreNumbered 0 in_order
+in_order-AreNumbered =
+    (refl, (refl, (refl, (refl, (refl, (refl, (refl, (refl, (refl, (refl, (refl, (refl, (refl, tt)))))))))))))
+
+-- the number of the table at a place
+number-at : (tables : List RegistryTable) (n k : ℕ) (d : RegistryTable) → AreNumbered n tables → k < length tables
+    → (kind_of (get_or tables k d)).number ≡ n + k
+number-at [] n k d h below = absurd (omega arith)
+number-at (table ∷ tables) n zero d h below = omega (arith, h.0)
+number-at (table ∷ tables) n (suc k) d h below = omega (arith, number-at tables (suc n) k d h.1 (omega arith))
+
+pub number-in_order : (k : ℕ) (d : RegistryTable) → k < 13 → (kind_of (get_or in_order k d)).number ≡ k
+number-in_order k d below = omega (arith, number-at in_order 0 k d in_order-AreNumbered below)
