@@ -2,3 +2,4 @@ mod PartLaws
 mod AgreeLaws
 mod KeptUse
 mod ExtensionLaws
+mod ValidLaws

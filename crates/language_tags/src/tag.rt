@@ -4,6 +4,7 @@ ghost use Rattle.std.specs.Option.{option_copied};
 ghost use Rattle.language_tags.specs.Equality.{Agree};
 
 use crate::part::{front, part};
+use crate::validity::has_different_pieces;
 use crate::{ExtensionsIterator, ParseError, SubtagsIter, TagJsonError};
 use language_tags_grammar::case::{in_case, push_lowercase};
 use language_tags_grammar::ends::Ends;
@@ -46,7 +47,9 @@ impl LanguageTag {
     ghost use Rattle.language_tags_grammar.specs.Scan.{scanned};
     ghost use Rattle.language_tags_grammar.specs.Tag.{Parts, Whole, Plain, print};
     ghost use Rattle.language_tags_grammar.specs.Tag.{at_most_one, extension_pieces, extensions_of, extlangs_of, front_of, full_language_of, language_of, private_of, private_pieces, region_of, script_of, variants_of};
+    ghost use Rattle.std.specs.Str.{bytes_eq};
     ghost use Rattle.language_tags.specs.Equality.{IsRange, Matches};
+    ghost use Rattle.language_tags.specs.Valid.{are_different};
     ghost use Rattle.language_tags_grammar.specs.TagFault.{IsFaultBehindX, IsFaultOf, IsFaultOfPieces};
     ghost use Rattle.language_tags_grammar.specs.TagOf.{IsLangtag, IsTagOf, StandsBehindX};
     ghost use Rattle.language_tags_grammar.specs.Shapes.{is_private};
@@ -279,6 +282,18 @@ impl LanguageTag {
         match self.private_use() {
             None => SubtagsIter::new(None),
             Some(text) => SubtagsIter::new(text.strip_prefix("x-")),
+        }
+    }
+
+    /// Whether no variant stands twice. Each is looked for behind it: where all are in a registry,
+    /// as they are here, that is at most once for each of the registry's variants.
+    pub(crate) fn has_different_variants(&self) -> bool
+        ensures { result ≡ are_different bytes_eq (variants_of self.now) }
+    {
+        let _ends = &self.ends;
+        match self.variant() {
+            Some(text) => has_different_pieces(text),
+            None => true,
         }
     }
 

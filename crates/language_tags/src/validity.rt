@@ -124,17 +124,6 @@ impl LanguageTag {
         }
         None
     }
-
-    /// Whether no variant stands twice. Each is looked for behind it: where all are in a registry,
-    /// as they are here, that is at most once for each of the registry's variants.
-    fn has_different_variants(&self) -> bool
-        ensures { result ≡ are_different bytes_eq (variants_of self.now) }
-    {
-        match self.variant() {
-            Some(text) => has_different_pieces(text),
-            None => true,
-        }
-    }
 }
 
 fn is_known_language(registry: &Registry, language: &str) -> bool
@@ -214,7 +203,7 @@ fn begins_with_any(text: &str, prefixes: &str) -> bool
     begins(text, rest)
 }
 
-fn has_different_pieces(text: &str) -> bool
+pub(crate) fn has_different_pieces(text: &str) -> bool
     ensures { result ≡ are_different bytes_eq (pieces text.now) }
 {
     let mut rest = text;

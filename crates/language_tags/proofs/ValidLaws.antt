@@ -1,0 +1,117 @@
+-- Lists that are gone through from the front, and the rules of a tag.
+use Rattle.std.proofs.Common.{Bor, ◌≡◌, ℕ, suc, ◌+◌, ◌<◌, Bool, true, false, not, List, [], ◌∷◌, ◌++◌, Option, Some, None, map, length, refl, sym, ap, ◌∙◌, cond, arith, lit<}
+use Rattle.std.specs.Prelude.{MatchOption, ◌&&◌, ◌||◌, nat_eq}
+use Rattle.std.specs.List.{flat_map, list_any, onto_first, position_or_len, slice_split}
+use Rattle.std.specs.Str.{bytes_eq}
+use Rattle.std.proofs.lemmas.Bool.Decides.{nat_tests}
+use Rattle.std.proofs.lemmas.List.Splits.{slice_split_first}
+use Rattle.std.proofs.lemmas.Str.Pattern.{IsSplitOnceResult, split_once_first}
+use Rattle.writeable_core.specs.FirstFailure.{Condition, first_failure}
+use Rattle.writeable_core.specs.FirstFailureLaws.{failed_first, passed_first}
+use Rattle.language_tags_grammar.specs.Tag.{Extension}
+use Rattle.language_tags.specs.Extensions.{item_of}
+use Rattle.language_tags.specs.Valid.{are_different, is_space}
+
+-- ---- a test of some
+
+module _ {A : Type 0} (test : A → Bool) (it rest : List A) (x : A) (step : it ≡ x ∷ rest) where
+  pub any_hit : test x ≡ true → list_any test it ≡ true
+  any_hit e = ap (list_any test) step ∙ ap (λ b. b || list_any test rest) e
+
+  pub any_miss : test x ≡ false → list_any test it ≡ list_any test rest
+  any_miss e = ap (list_any test) step ∙ ap (λ b. b || list_any test rest) e
+
+pub any_none : {A : Type 0} (test : A → Bool) (it : List A) → it ≡ [] → list_any test it ≡ false
+any_none test it e = ap (list_any test) e
+
+pub any_last : {A : Type 0} (test : A → Bool) (it : List A) (x : A) (b : Bool) → it ≡ x ∷ [] → b ≡ test x → b ≡ list_any test it
+any_last test it x b step e = e ∙ sym (right (test x)) ∙ ap (list_any test) (sym step)
+  where
+    right : (c : Bool) → c || false ≡ c
+    right true = refl
+    right false = refl
+
+pub nat_same : (a b : ℕ) → a ≡ b → nat_eq a b ≡ true
+nat_same a b e = grind (arith, nat_tests)
+
+pub nat_other : (a b : ℕ) → (a ≡ b → ⊥) → nat_eq a b ≡ false
+nat_other a b h = grind (arith, nat_tests)
+
+-- ---- different elements
+
+module _ {A : Type 0} (same : A → A → Bool) (it rest : List A) (x : A) (step : it ≡ x ∷ rest) where
+  pub different_hit : list_any (same x) rest ≡ true → are_different same it ≡ false
+  different_hit e = ap (are_different same) step ∙ ap (λ b. not b && are_different same rest) e
+
+  pub different_miss : list_any (same x) rest ≡ false → are_different same it ≡ are_different same rest
+  different_miss e = ap (are_different same) step ∙ ap (λ b. not b && are_different same rest) e
+
+pub different_one : {A : Type 0} (same : A → A → Bool) (it : List A) (x : A) → it ≡ x ∷ [] → are_different same it ≡ true
+different_one same it x e = ap (are_different same) e
+
+pub different_none : {A : Type 0} (same : A → A → Bool) (it : List A) → it ≡ [] → are_different same it ≡ true
+different_none same it e = ap (are_different same) e
+
+-- ---- singletons of extensions
+
+abbrev pub singles : List Extension → List ℕ
+singles es = map (λ e. e.singleton) es
+
+singles-items : (es : List Extension) → map (λ i. i.0) (map item_of es) ≡ singles es
+singles-items [] = refl
+singles-items (e ∷ es) = ap (λ cs. e.singleton ∷ cs) (singles-items es)
+
+pub singles-step : (es fs : List Extension) (c : ℕ) (text : List ℕ) → map item_of es ≡ (c, text) ∷ map item_of fs
+    → singles es ≡ c ∷ singles fs
+singles-step es fs c text e =
+    sym (singles-items es) ∙ ap (map (λ i. i.0)) e ∙ ap (λ cs. c ∷ cs) (singles-items fs)
+
+pub singles-none : (es : List Extension) → map item_of es ≡ [] → singles es ≡ []
+singles-none es e = sym (singles-items es) ∙ ap (map (λ i. i.0)) e
+
+-- ---- texts between spaces
+
+no_space : (text : List ℕ) → position_or_len is_space text ≡ length text → slice_split is_space text ≡ text ∷ []
+no_space [] e = refl
+no_space (c ∷ text) e = by (no_space text) (is_space c) e
+  where
+    by : (position_or_len is_space text ≡ length text → slice_split is_space text ≡ text ∷ []) → (b : Bool)
+        → cond (not b) (1 + position_or_len is_space text) 0 ≡ suc (length text)
+        → cond b ([] ∷ slice_split is_space text) (onto_first c (slice_split is_space text)) ≡ (c ∷ text) ∷ []
+    by rest true e = absurd (omega arith)
+    by rest false e = ap (onto_first c) (rest (omega arith))
+
+-- what `split_once` gives at a space
+pub first_word : (text : List ℕ) (r : Option (Bor (List ℕ) × Bor (List ℕ))) → IsSplitOnceResult 32 text r
+    → MatchOption r (slice_split is_space text ≡ text ∷ []) (λ x. slice_split is_space text ≡ x.0.now ∷ slice_split is_space x.1.now)
+first_word text None h = no_space text (split_once_first 32 text None h (lit< tt))
+first_word text (Some x) h =
+    let cut = split_once_first 32 text (Some x) h (lit< tt) in
+    slice_split_first is_space text 0 cut.0
+    ∙ (λ i. sym cut.1 i ∷ slice_split is_space (sym cut.2 i))
+
+-- ---- rules
+
+module _ {E : Type 0} where
+  pub breaks : (b : Bool) (f : E) (cs : List (Condition E)) → b ≡ false → Some f ≡ first_failure ((b, f) ∷ cs)
+  breaks b f cs e = ap (λ c. cond c (first_failure cs) (Some f)) (sym e)
+
+  pub keeps : (b : Bool) (f : E) (cs : List (Condition E)) → b ≡ true → first_failure cs ≡ first_failure ((b, f) ∷ cs)
+  keeps b f cs e = ap (λ c. cond c (first_failure cs) (Some f)) (sym e)
+
+  pub part_breaks : (xs ys : List (Condition E)) (f : E) → Some f ≡ first_failure xs → Some f ≡ first_failure (xs ++ ys)
+  part_breaks xs ys f e = sym (failed_first xs ys f (sym e))
+
+  pub part_keeps : (xs ys : List (Condition E)) → None ≡ first_failure xs → first_failure ys ≡ first_failure (xs ++ ys)
+  part_keeps xs ys e = sym (passed_first xs ys (sym e))
+
+  -- the rules of the elements of a list
+  module _ {A : Type 0} (rules : A → List (Condition E)) (it rest : List A) (x : A) (step : it ≡ x ∷ rest) where
+    pub one_breaks : (f : E) → Some f ≡ first_failure (rules x) → Some f ≡ first_failure (flat_map rules it)
+    one_breaks f e = part_breaks (rules x) (flat_map rules rest) f e ∙ ap (λ xs. first_failure (flat_map rules xs)) (sym step)
+
+    pub one_keeps : None ≡ first_failure (rules x) → first_failure (flat_map rules rest) ≡ first_failure (flat_map rules it)
+    one_keeps e = part_keeps (rules x) (flat_map rules rest) e ∙ ap (λ xs. first_failure (flat_map rules xs)) (sym step)
+
+  pub none_breaks : {A : Type 0} (rules : A → List (Condition E)) (it : List A) → it ≡ [] → None ≡ first_failure (flat_map rules it)
+  none_breaks rules it e = ap (λ xs. first_failure (flat_map rules xs)) (sym e)
