@@ -1,6 +1,6 @@
 -- Lists that are gone through from the front, and the rules of a tag.
 use Rattle.std.proofs.Common.{Bor, ◌≡◌, ℕ, suc, ◌+◌, ◌<◌, Bool, true, false, not, List, [], ◌∷◌, ◌++◌, Option, Some, None, map, length, refl, sym, ap, ◌∙◌, cond, arith, lit<}
-use Rattle.std.specs.Prelude.{MatchOption, ◌&&◌, ◌||◌, nat_eq}
+use Rattle.std.specs.Prelude.{MatchOption, ◌&&◌, ◌||◌, nat_eq, nat_lt}
 use Rattle.std.specs.List.{flat_map, list_any, onto_first, position_or_len, slice_split}
 use Rattle.std.specs.Str.{bytes_eq}
 use Rattle.std.proofs.lemmas.Bool.Decides.{nat_tests}
@@ -8,9 +8,12 @@ use Rattle.std.proofs.lemmas.List.Splits.{slice_split_first}
 use Rattle.std.proofs.lemmas.Str.Pattern.{IsSplitOnceResult, split_once_first}
 use Rattle.writeable_core.specs.FirstFailure.{Condition, first_failure}
 use Rattle.writeable_core.specs.FirstFailureLaws.{failed_first, passed_first}
-use Rattle.language_tags_grammar.specs.Tag.{Extension}
+use Rattle.language_tags_grammar.specs.Tag.{Extension, Tag, at_most_one, extensions_of, extlangs_of, language_of, print, region_of, script_of, variants_of}
+use Rattle.language_tags_registry.specs.Registry.{Tables}
 use Rattle.language_tags.specs.Extensions.{item_of}
-use Rattle.language_tags.specs.Valid.{are_different, is_space}
+use Rattle.language_tags.specs.Valid.{are_different, extlang_rules, is_known_language, is_space, region_rules, rules, script_rules, variant_rules}
+use Rattle.language_tags.specs.declared.error.ValidationError.{ValidationError}
+use Rattle.language_tags.specs.declared.error.ValidationError.TheVariants.{DuplicateVariant, DuplicateExtension, MultipleExtendedLanguageSubtags, PrimaryLanguageNotInRegistry}
 
 -- ---- a test of some
 
@@ -106,12 +109,66 @@ module _ {E : Type 0} where
   part_keeps xs ys e = sym (passed_first xs ys (sym e))
 
   -- the rules of the elements of a list
-  module _ {A : Type 0} (rules : A → List (Condition E)) (it rest : List A) (x : A) (step : it ≡ x ∷ rest) where
-    pub one_breaks : (f : E) → Some f ≡ first_failure (rules x) → Some f ≡ first_failure (flat_map rules it)
-    one_breaks f e = part_breaks (rules x) (flat_map rules rest) f e ∙ ap (λ xs. first_failure (flat_map rules xs)) (sym step)
+  module _ {A : Type 0} (rules_of : A → List (Condition E)) (it rest : List A) (x : A) (step : it ≡ x ∷ rest) where
+    pub one_breaks : (f : E) → Some f ≡ first_failure (rules_of x) → Some f ≡ first_failure (flat_map rules_of it)
+    one_breaks f e = part_breaks (rules_of x) (flat_map rules_of rest) f e ∙ ap (λ xs. first_failure (flat_map rules_of xs)) (sym step)
 
-    pub one_keeps : None ≡ first_failure (rules x) → first_failure (flat_map rules rest) ≡ first_failure (flat_map rules it)
-    one_keeps e = part_keeps (rules x) (flat_map rules rest) e ∙ ap (λ xs. first_failure (flat_map rules xs)) (sym step)
+    pub one_keeps : None ≡ first_failure (rules_of x) → first_failure (flat_map rules_of rest) ≡ first_failure (flat_map rules_of it)
+    one_keeps e = part_keeps (rules_of x) (flat_map rules_of rest) e ∙ ap (λ xs. first_failure (flat_map rules_of xs)) (sym step)
 
-  pub none_breaks : {A : Type 0} (rules : A → List (Condition E)) (it : List A) → it ≡ [] → None ≡ first_failure (flat_map rules it)
-  none_breaks rules it e = ap (λ xs. first_failure (flat_map rules xs)) (sym e)
+  pub none_breaks : {A : Type 0} (rules_of : A → List (Condition E)) (it : List A) → it ≡ [] → None ≡ first_failure (flat_map rules_of it)
+  none_breaks rules_of it e = ap (λ xs. first_failure (flat_map rules_of xs)) (sym e)
+
+-- the rules of a tag, where the first two hold: which list decides
+module _ (R : Tables) (g : Tag) (few : nat_lt (length (extlangs_of g)) 2 ≡ true) (known : is_known_language R (language_of g) ≡ true) where
+  abbrev pub Es : List (Condition ValidationError)
+  Es = flat_map (extlang_rules R (print g)) (extlangs_of g)
+
+  abbrev pub Ss : List (Condition ValidationError)
+  Ss = flat_map (script_rules R) (at_most_one (script_of g))
+
+  abbrev pub Rs : List (Condition ValidationError)
+  Rs = flat_map (region_rules R) (at_most_one (region_of g))
+
+  abbrev pub Vs : List (Condition ValidationError)
+  Vs = flat_map (variant_rules R (print g)) (variants_of g)
+
+  abbrev pub Ds : List (Condition ValidationError)
+  Ds =
+      (are_different bytes_eq (variants_of g), DuplicateVariant)
+      ∷ (are_different nat_eq (map (λ e. e.singleton) (extensions_of g)), DuplicateExtension)
+      ∷ []
+
+  from_extlangs : first_failure (Es ++ (Ss ++ (Rs ++ (Vs ++ Ds)))) ≡ first_failure (rules R g)
+  from_extlangs =
+      let rest = Es ++ (Ss ++ (Rs ++ (Vs ++ Ds))) in
+      keeps (is_known_language R (language_of g)) PrimaryLanguageNotInRegistry rest known
+      ∙ keeps (nat_lt (length (extlangs_of g)) 2) MultipleExtendedLanguageSubtags
+      ((is_known_language R (language_of g), PrimaryLanguageNotInRegistry) ∷ rest) few
+
+  pub extlang_broken : (f : ValidationError) → Some f ≡ first_failure Es → Some f ≡ first_failure (rules R g)
+  extlang_broken f e = part_breaks Es (Ss ++ (Rs ++ (Vs ++ Ds))) f e ∙ from_extlangs
+
+  module _ (extlangs : None ≡ first_failure Es) where
+    from_script : first_failure (Ss ++ (Rs ++ (Vs ++ Ds))) ≡ first_failure (rules R g)
+    from_script = part_keeps Es (Ss ++ (Rs ++ (Vs ++ Ds))) extlangs ∙ from_extlangs
+
+    pub script_broken : (f : ValidationError) → Some f ≡ first_failure Ss → Some f ≡ first_failure (rules R g)
+    script_broken f e = part_breaks Ss (Rs ++ (Vs ++ Ds)) f e ∙ from_script
+
+    module _ (script : None ≡ first_failure Ss) where
+      from_region : first_failure (Rs ++ (Vs ++ Ds)) ≡ first_failure (rules R g)
+      from_region = part_keeps Ss (Rs ++ (Vs ++ Ds)) script ∙ from_script
+
+      pub region_broken : (f : ValidationError) → Some f ≡ first_failure Rs → Some f ≡ first_failure (rules R g)
+      region_broken f e = part_breaks Rs (Vs ++ Ds) f e ∙ from_region
+
+      module _ (region : None ≡ first_failure Rs) where
+        from_variants : first_failure (Vs ++ Ds) ≡ first_failure (rules R g)
+        from_variants = part_keeps Rs (Vs ++ Ds) region ∙ from_region
+
+        pub variant_broken : (f : ValidationError) → Some f ≡ first_failure Vs → Some f ≡ first_failure (rules R g)
+        variant_broken f e = part_breaks Vs Ds f e ∙ from_variants
+
+        pub from_repeats : None ≡ first_failure Vs → first_failure Ds ≡ first_failure (rules R g)
+        from_repeats variants = part_keeps Vs Ds variants ∙ from_variants

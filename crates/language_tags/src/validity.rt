@@ -17,7 +17,7 @@ impl LanguageTag {
         ensures fault { MatchResult result (λ _. valid registry.now self.now ≡ None) (λ fault. valid registry.now self.now ≡ Some fault) }
     {
         let text = self.as_str();
-        if text.starts_with("x-") || is_grandfathered(text) {
+        if begins(text, "x-") || is_grandfathered(text) {
             return Ok(());
         }
         match self.first_fault(registry) {
