@@ -1,5 +1,5 @@
 -- Lists that are gone through from the front, and the rules of a tag.
-use Rattle.std.proofs.Common.{Bor, ◌≡◌, ℕ, suc, ◌+◌, ◌<◌, Bool, true, false, not, List, [], ◌∷◌, ◌++◌, Option, Some, None, map, length, refl, sym, ap, ◌∙◌, cond, arith, lit<}
+use Rattle.std.proofs.Common.{Bor, ◌≡◌, ◌≢◌, ℕ, suc, ◌+◌, ◌<◌, Bool, true, false, not, List, [], ◌∷◌, ◌++◌, Option, Some, None, map, length, refl, sym, ap, ◌∙◌, cond, arith, lit<}
 use Rattle.std.specs.Prelude.{MatchOption, ◌&&◌, ◌||◌, nat_eq, nat_lt}
 use Rattle.std.specs.List.{flat_map, list_any, onto_first, position_or_len, slice_split}
 use Rattle.std.specs.Str.{bytes_eq}
@@ -13,7 +13,7 @@ use Rattle.language_tags_registry.specs.Registry.{Tables}
 use Rattle.language_tags.specs.Extensions.{item_of}
 use Rattle.language_tags.specs.Valid.{are_different, extlang_rules, is_known_language, is_space, region_rules, rules, script_rules, variant_rules}
 use Rattle.language_tags.specs.declared.error.ValidationError.{ValidationError}
-use Rattle.language_tags.specs.declared.error.ValidationError.TheVariants.{DuplicateVariant, DuplicateExtension, MultipleExtendedLanguageSubtags, PrimaryLanguageNotInRegistry}
+use Rattle.language_tags.specs.declared.error.ValidationError.TheVariants.{DuplicateVariant, DuplicateExtension, MultipleExtendedLanguageSubtags, PrimaryLanguageNotInRegistry, ExtendedLanguageNotInRegistry, ScriptNotInRegistry, RegionNotInRegistry, VariantNotInRegistry, WrongExtendedLanguagePrefix, WrongVariantPrefix, NoMemory}
 
 -- ---- a test of some
 
@@ -172,3 +172,44 @@ module _ (R : Tables) (g : Tag) (few : nat_lt (length (extlangs_of g)) 2 ≡ tru
 
         pub from_repeats : None ≡ first_failure Vs → first_failure Ds ≡ first_failure (rules R g)
         from_repeats variants = part_keeps Vs Ds variants ∙ from_variants
+
+-- ---- no rule speaks of memory
+
+abbrev Speak : List (Condition ValidationError) → Type 0
+Speak [] = Unit {0}
+Speak (c ∷ cs) = (c.1 ≢ NoMemory) × Speak cs
+
+speak-append : (xs ys : List (Condition ValidationError)) → Speak xs → Speak ys → Speak (xs ++ ys)
+speak-append [] ys h k = k
+speak-append (x ∷ xs) ys h k = (h.0, speak-append xs ys h.1 k)
+
+speak-flat : {A : Type 0} (rules_of : A → List (Condition ValidationError)) → ((x : A) → Speak (rules_of x)) → (xs : List A)
+    → Speak (flat_map rules_of xs)
+speak-flat rules_of each [] = tt
+speak-flat rules_of each (x ∷ xs) = speak-append (rules_of x) (flat_map rules_of xs) (each x) (speak-flat rules_of each xs)
+
+speak-first : (cs : List (Condition ValidationError)) → Speak cs → first_failure cs ≡ Some NoMemory → ⊥
+speak-first [] h e = cc
+speak-first (c ∷ cs) h e = by c.0 (speak-first cs h.1) e
+  where
+    by : (b : Bool) → (first_failure cs ≡ Some NoMemory → ⊥) → cond b (first_failure cs) (Some c.1) ≡ Some NoMemory → ⊥
+    by true rest f = rest f
+    by false rest f = h.0 (let same : c.1 ≡ NoMemory = cc in same)
+
+pub rules_speak : (R : Tables) (g : Tag) → first_failure (rules R g) ≡ Some NoMemory → ⊥
+rules_speak R g =
+    speak-first (rules R g) (
+      λ e. cc,
+      (
+        λ e. cc,
+        speak-append (flat_map (extlang_rules R (print g)) (extlangs_of g)) _
+        (speak-flat (extlang_rules R (print g)) (λ x. (λ e. cc, (λ e. cc, tt))) (extlangs_of g))
+        (speak-append (flat_map (script_rules R) (at_most_one (script_of g))) _
+        (speak-flat (script_rules R) (λ x. (λ e. cc, tt)) (at_most_one (script_of g)))
+        (speak-append (flat_map (region_rules R) (at_most_one (region_of g))) _
+        (speak-flat (region_rules R) (λ x. (λ e. cc, tt)) (at_most_one (region_of g)))
+        (speak-append (flat_map (variant_rules R (print g)) (variants_of g)) _
+        (speak-flat (variant_rules R (print g)) (λ x. (λ e. cc, (λ e. cc, tt))) (variants_of g))
+        (λ e. cc, (λ e. cc, tt))))),
+      ),
+    )

@@ -15,6 +15,7 @@ impl LanguageTag {
     /// The first rule of RFC 5646, section 2.2.9, that the tag breaks. No memory is taken.
     pub fn validate(&self, registry: &Registry) -> Result<(), ValidationError>
         ensures fault { MatchResult result (λ _. valid registry.now self.now ≡ None) (λ fault. valid registry.now self.now ≡ Some fault) }
+        ensures memory { result ≢ Err ValidationError.NoMemory }
     {
         let text = self.as_str();
         if begins(text, "x-") || is_grandfathered(text) {
