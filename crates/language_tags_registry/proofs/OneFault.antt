@@ -30,7 +30,8 @@ row_of (BadValue table i) = i
 row_of NoMemory = 0
 
 -- the row at one place
-one_row : (rows : List TextRow) (i j : ℕ) (row other : TextRow) → i ≡ j → slice_get rows i ≡ Some row
+one_row : (rows : List TextRow) (i j : ℕ) (row other : TextRow) → i ≡ j
+    → slice_get rows i ≡ Some row
     → slice_get rows j ≡ Some other → row ≡ other
 one_row rows i j row other same at_i at_j =
     let both : Some row ≡ Some other = sym at_i ∙ ap (slice_get rows) same ∙ at_j in cc
@@ -68,7 +69,8 @@ module _ (kind : Kind) where
       before = sound_among i n rows lt fault.before;
       row = fault.row;
       row_is = get_less i n rows lt ∙ fault.row_is;
-      fault_is = subst (λ earlier. HasEarlierKey kind earlier fault.row) (sym (take-take i n rows (omega arith))) fault.fault_is;
+      fault_is = subst (λ earlier. HasEarlierKey kind earlier fault.row)
+          (sym (take-take i n rows (omega arith))) fault.fault_is;
     },
   )
   among n rows NoMemory lt fault = tt
@@ -82,33 +84,45 @@ module _ (kind : Kind) where
   sound_before rows NoMemory other fault = absurd (other refl)
 
   -- two faults of one row are one
-  same_row : (rows : List TextRow) (e f : RegistryError) → e ≢ NoMemory → f ≢ NoMemory → row_of e ≡ row_of f
+  same_row : (rows : List TextRow) (e f : RegistryError) → e ≢ NoMemory → f ≢ NoMemory
+      → row_of e ≡ row_of f
       → IsFaultOf kind rows e → IsFaultOf kind rows f → e ≡ f
-  same_row rows (BadKey t i) (BadKey u j) n m same (p, a) (q, b) = λ k. BadKey ((p ∙ sym q) k) (same k)
-  same_row rows (BadValue t i) (BadValue u j) n m same (p, a) (q, b) = λ k. BadValue ((p ∙ sym q) k) (same k)
-  same_row rows (DuplicateKey t i) (DuplicateKey u j) n m same (p, a) (q, b) = λ k. DuplicateKey ((p ∙ sym q) k) (same k)
+  same_row rows (BadKey t i) (BadKey u j) n m same (p, a) (q, b) =
+      λ k. BadKey ((p ∙ sym q) k) (same k)
+  same_row rows (BadValue t i) (BadValue u j) n m same (p, a) (q, b) =
+      λ k. BadValue ((p ∙ sym q) k) (same k)
+  same_row rows (DuplicateKey t i) (DuplicateKey u j) n m same (p, a) (q, b) =
+      λ k. DuplicateKey ((p ∙ sym q) k) (same k)
   same_row rows (BadKey t i) (BadValue u j) n m same (p, a) (q, b) =
-      absurd (a.fault_is (subst (HasKey kind) (one_row rows j i b.row a.row (sym same) b.row_is a.row_is) b.fault_is.0))
+      absurd (a.fault_is (subst (HasKey kind) (one_row rows j i b.row a.row (sym same) b.row_is
+      a.row_is) b.fault_is.0))
   same_row rows (BadKey t i) (DuplicateKey u j) n m same (p, a) (q, b) =
-      absurd (a.fault_is (subst (HasKey kind) (one_row rows j i b.row a.row (sym same) b.row_is a.row_is) b.fault_is.0))
+      absurd (a.fault_is (subst (HasKey kind) (one_row rows j i b.row a.row (sym same) b.row_is
+      a.row_is) b.fault_is.0))
   same_row rows (BadValue t i) (BadKey u j) n m same (p, a) (q, b) =
-      absurd (b.fault_is (subst (HasKey kind) (one_row rows i j a.row b.row same a.row_is b.row_is) a.fault_is.0))
+      absurd (b.fault_is (subst (HasKey kind) (one_row rows i j a.row b.row same a.row_is b.row_is)
+      a.fault_is.0))
   same_row rows (DuplicateKey t i) (BadKey u j) n m same (p, a) (q, b) =
-      absurd (b.fault_is (subst (HasKey kind) (one_row rows i j a.row b.row same a.row_is b.row_is) a.fault_is.0))
+      absurd (b.fault_is (subst (HasKey kind) (one_row rows i j a.row b.row same a.row_is b.row_is)
+      a.fault_is.0))
   same_row rows (BadValue t i) (DuplicateKey u j) n m same (p, a) (q, b) =
-      absurd (a.fault_is.1 (subst (HasValue kind) (one_row rows j i b.row a.row (sym same) b.row_is a.row_is) b.fault_is.1))
+      absurd (a.fault_is.1 (subst (HasValue kind) (one_row rows j i b.row a.row (sym same) b.row_is
+      a.row_is) b.fault_is.1))
   same_row rows (DuplicateKey t i) (BadValue u j) n m same (p, a) (q, b) =
-      absurd (b.fault_is.1 (subst (HasValue kind) (one_row rows i j a.row b.row same a.row_is b.row_is) a.fault_is.1))
+      absurd (b.fault_is.1 (subst (HasValue kind) (one_row rows i j a.row b.row same a.row_is
+      b.row_is) a.fault_is.1))
   same_row rows NoMemory f n m same a b = absurd (n refl)
   same_row rows (BadKey t i) NoMemory n m same a b = absurd (m refl)
   same_row rows (BadValue t i) NoMemory n m same a b = absurd (m refl)
   same_row rows (DuplicateKey t i) NoMemory n m same a b = absurd (m refl)
 
   -- no faulty row stands before the first one
-  not_before : (rows : List TextRow) (e f : RegistryError) → e ≢ NoMemory → f ≢ NoMemory → row_of e < row_of f
+  not_before : (rows : List TextRow) (e f : RegistryError) → e ≢ NoMemory → f ≢ NoMemory
+      → row_of e < row_of f
       → IsFaultOf kind rows e → IsFaultOf kind rows f → ⊥
   not_before rows e f n m lt a b =
-      n (no_fault kind (take (row_of f) rows) (sound_before rows f m b) e (among (row_of f) rows e lt a))
+      n (no_fault kind (take (row_of f) rows) (sound_before rows f m b) e
+      (among (row_of f) rows e lt a))
 
   -- two faults of a table are one
   one_fault : (rows : List TextRow) (e f : RegistryError) → e ≢ NoMemory → f ≢ NoMemory
@@ -124,7 +138,8 @@ module _ (kind : Kind) where
 
 module _ (rows : RegistryRows) where
   -- no table with a fault stands before the first one
-  table_not_before : (e f : RegistryError) → e ≢ NoMemory → (a : IsFirstFault rows e) (b : IsFirstFault rows f)
+  table_not_before : (e f : RegistryError) → e ≢ NoMemory
+      → (a : IsFirstFault rows e) (b : IsFirstFault rows f)
       → (kind_of a.table).number < (kind_of b.table).number → ⊥
   table_not_before e f n a b lt =
       n (no_fault (kind_of a.table) (rows_of a.table rows) (b.before a.table lt) e a.fault)
@@ -137,13 +152,15 @@ module _ (rows : RegistryRows) where
       (subst (λ table. IsFaultOf (kind_of table) (rows_of table rows) e) same a) b
 
   -- two first faults of all are one
-  pub one_first_fault : (e f : RegistryError) → e ≢ NoMemory → f ≢ NoMemory → IsFirstFault rows e → IsFirstFault rows f
+  pub one_first_fault : (e f : RegistryError) → e ≢ NoMemory → f ≢ NoMemory → IsFirstFault rows e
+      → IsFirstFault rows f
       → e ≡ f
   one_first_fault e f n m a b =
       elim (cases_lt (kind_of a.table).number (kind_of b.table).number) [
         | inl less ↦ absurd (table_not_before e f n a b less)
         | inr le ↦ elim (cases_lt (kind_of b.table).number (kind_of a.table).number) [
           | inl less ↦ absurd (table_not_before f e m b a less)
-          | inr ge ↦ same_table e f n m a.table b.table (same_number a.table b.table (omega arith)) a.fault b.fault
+          | inr ge ↦ same_table e f n m a.table b.table (same_number a.table b.table (omega arith))
+              a.fault b.fault
         ]
       ]

@@ -1,5 +1,5 @@
 -- The tables by their numbers.
-use Rattle.std.proofs.Common.{◌≡◌, ℕ, zero, suc, ◌+◌, ◌<◌, length, List, [], ◌∷◌, Option, Some, get_or, refl, sym, ap, ◌∙◌, arith}
+use Rattle.std.proofs.Common.{◌≡◌, ℕ, zero, suc, ◌+◌, ◌<◌, length, List, [], ◌∷◌, Some, get_or, refl, sym, ap, ◌∙◌, arith}
 use Rattle.std.specs.List.{slice_get}
 use Rattle.language_tags_registry.specs.Kinds.{kind_of}
 use Rattle.language_tags_registry.specs.Registry.{Entry, table_of, tables_at}
@@ -42,9 +42,9 @@ number-lt RedundantsPreferred = omega arith
 -- the tables in order, each at its number
 abbrev pub in_order : List RegistryTable
 in_order =
-    Languages ∷ LanguagesPreferred ∷ LanguagesSuppressScript ∷ Extlangs ∷ ExtlangsPreferred ∷ Scripts
-    ∷ ScriptsPreferred ∷ Regions ∷ RegionsPreferred ∷ Variants ∷ VariantsPreferred ∷ GrandfatheredsPreferred
-    ∷ RedundantsPreferred ∷ []
+    Languages ∷ LanguagesPreferred ∷ LanguagesSuppressScript ∷ Extlangs ∷ ExtlangsPreferred
+    ∷ Scripts ∷ ScriptsPreferred ∷ Regions ∷ RegionsPreferred ∷ Variants ∷ VariantsPreferred
+    ∷ GrandfatheredsPreferred ∷ RedundantsPreferred ∷ []
 
 listed : (table : RegistryTable) → slice_get in_order (kind_of table).number ≡ Some table
 listed Languages = refl
@@ -72,15 +72,53 @@ AreNumbered n [] = Unit {0}
 AreNumbered n (table ∷ tables) = ((kind_of table).number ≡ n) × AreNumbered (suc n) tables
 
 in_order-AreNumbered : AreNumbered 0 in_order
-in_order-AreNumbered =
-    (refl, (refl, (refl, (refl, (refl, (refl, (refl, (refl, (refl, (refl, (refl, (refl, (refl, tt)))))))))))))
+in_order-AreNumbered = (
+  refl,
+  (
+    refl,
+    (
+      refl,
+      (
+        refl,
+        (
+          refl,
+          (
+            refl,
+            (
+              refl,
+              (
+                refl,
+                (
+                  refl,
+                  (
+                    refl,
+                    (
+                      refl,
+                      (
+                        refl,
+                        (refl, tt),
+                      ),
+                    ),
+                  ),
+                ),
+              ),
+            ),
+          ),
+        ),
+      ),
+    ),
+  ),
+)
 
 -- the number of the table at a place
-number-at : (tables : List RegistryTable) (n k : ℕ) (d : RegistryTable) → AreNumbered n tables → k < length tables
+number-at : (tables : List RegistryTable) (n k : ℕ) (d : RegistryTable) → AreNumbered n tables
+    → k < length tables
     → (kind_of (get_or tables k d)).number ≡ n + k
 number-at [] n k d h below = absurd (omega arith)
 number-at (table ∷ tables) n zero d h below = omega (arith, h.0)
-number-at (table ∷ tables) n (suc k) d h below = omega (arith, number-at tables (suc n) k d h.1 (omega arith))
+number-at (table ∷ tables) n (suc k) d h below =
+    omega (arith, number-at tables (suc n) k d h.1 (omega arith))
 
-pub number-in_order : (k : ℕ) (d : RegistryTable) → k < 13 → (kind_of (get_or in_order k d)).number ≡ k
+pub number-in_order : (k : ℕ) (d : RegistryTable) → k < 13
+    → (kind_of (get_or in_order k d)).number ≡ k
 number-in_order k d below = omega (arith, number-at in_order 0 k d in_order-AreNumbered below)

@@ -1,4 +1,3 @@
-use Rattle.std.proofs.Common.{◌≡◌, ◌<◌, ℕ, length, get_or, []}
 use Rattle.language_tags_registry.proofs.Filled.{AreFilled}
 use Rattle.language_tags_registry.proofs.registry.Registry.try_new.Given as goal
 

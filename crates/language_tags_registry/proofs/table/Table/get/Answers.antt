@@ -12,4 +12,5 @@ returns-in-Some c =
 pub returns-in-None : goal.returns-in-None
 returns-in-None c =
     rw (← c.self.view_is)
-    (ap (option_map string_bytes) c.in-None.ensures.value ∙ sym (value_of-strings c.self.inside.entries.entries c.args.key.now))
+    (ap (option_map string_bytes) c.in-None.ensures.value
+    ∙ sym (value_of-strings c.self.inside.entries.entries c.args.key.now))
