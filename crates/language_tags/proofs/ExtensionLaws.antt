@@ -1,20 +1,19 @@
 -- The first extension of a text, and the others.
-use Rattle.std.proofs.Common.{Bor, ◌≡◌, ℕ, zero, suc, ◌+◌, ◌-◌, ◌<◌, ◌≤◌, true, List, [], ◌∷◌, ◌++◌, Option, Some, None, length, take, drop, refl, sym, ap, ◌∙◌, arith, append-nil, length-append, subst, map}
-use Rattle.std.specs.Prelude.{IsTrue, slice_index}
+use Rattle.std.proofs.Common.{Bor, ◌≡◌, ℕ, ◌+◌, ◌<◌, ◌≤◌, List, [], ◌∷◌, ◌++◌, Option, Some, None, length, drop, refl, sym, ap, ◌∙◌, arith, append-nil, length-append, subst}
+use Rattle.std.specs.Prelude.{slice_index}
 use Rattle.std.specs.Option.{option_copied}
-use Rattle.std.specs.List.{AllByRecursion, flat_map, list_all}
-use Rattle.std.specs.Str.{IsAscii, byte}
-use Rattle.std.proofs.lemmas.Bool.Decides.{nat_tests}
-use Rattle.std.proofs.lemmas.List.{drop_at, take_at, take_rest}
+use Rattle.std.specs.List.{AllByRecursion, flat_map}
+use Rattle.std.specs.Str.{IsAscii}
+use Rattle.std.proofs.lemmas.List.{drop_at, take_rest}
 use Rattle.std.proofs.lemmas.Str.{IsAscii-append}
-use Rattle.language_tags_grammar.specs.Kept.{IsKept, between, grouped, put, tag_at}
+use Rattle.language_tags_grammar.specs.Kept.{IsKept, between, grouped, tag_at}
 use Rattle.language_tags_grammar.specs.declared.ends.Ends.{Ends}
-use Rattle.language_tags_grammar.specs.Pieces.{dashed, joined, part_text, pieces, pieces_of}
-use Rattle.language_tags_grammar.specs.Shapes.{IsExtension, is_content}
+use Rattle.language_tags_grammar.specs.Pieces.{dashed, joined, part_text, pieces}
+use Rattle.language_tags_grammar.specs.Shapes.{IsExtension}
 use Rattle.language_tags_grammar.specs.Tag.{Extension, Tag, extension_pieces, extensions_of}
-use Rattle.language_tags_grammar.proofs.KeptLaws.{AreClean, IsClean, between-middle, clean-append, clean-ascii, dashed-ascii, dashed-append, grouped-content, grouped-runs, joined-dashed, pieces-dashed, runs-clean}
+use Rattle.language_tags_grammar.proofs.KeptLaws.{AreClean, between-middle, clean-ascii, dashed-ascii, dashed-append, grouped-content, grouped-runs, joined-dashed, pieces-dashed, runs-clean}
 use Rattle.language_tags_grammar.proofs.ScannedText.{first-clean, pieces-part_text, rest-clean}
-use Rattle.language_tags.specs.Extensions.{AreExtensionsOf, IsExtensionsText, extensions_in, item_of}
+use Rattle.language_tags.specs.Extensions.{AreExtensionsOf, IsExtensionsText, extensions_in}
 
 -- ---- the steps over pieces
 

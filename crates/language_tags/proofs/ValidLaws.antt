@@ -1,5 +1,5 @@
 -- Lists that are gone through from the front, and the rules of a tag.
-use Rattle.std.proofs.Common.{Bor, ◌≡◌, ◌≢◌, ℕ, suc, ◌+◌, ◌<◌, Bool, true, false, not, List, [], ◌∷◌, ◌++◌, Option, Some, None, map, length, refl, sym, ap, ◌∙◌, cond, arith, lit<}
+use Rattle.std.proofs.Common.{Bor, ◌≡◌, ◌≢◌, ℕ, suc, ◌+◌, Bool, true, false, not, List, [], ◌∷◌, ◌++◌, Option, Some, None, map, length, refl, sym, ap, ◌∙◌, cond, arith, lit<}
 use Rattle.std.specs.Prelude.{MatchOption, ◌&&◌, ◌||◌, nat_eq, nat_lt}
 use Rattle.std.specs.List.{flat_map, list_any, onto_first, position_or_len, slice_split}
 use Rattle.std.specs.Str.{bytes_eq}
@@ -13,7 +13,7 @@ use Rattle.language_tags_registry.specs.Registry.{Tables}
 use Rattle.language_tags.specs.Extensions.{item_of}
 use Rattle.language_tags.specs.Valid.{are_different, extlang_rules, is_known_language, is_space, region_rules, rules, script_rules, variant_rules}
 use Rattle.language_tags.specs.declared.error.ValidationError.{ValidationError}
-use Rattle.language_tags.specs.declared.error.ValidationError.TheVariants.{DuplicateVariant, DuplicateExtension, MultipleExtendedLanguageSubtags, PrimaryLanguageNotInRegistry, ExtendedLanguageNotInRegistry, ScriptNotInRegistry, RegionNotInRegistry, VariantNotInRegistry, WrongExtendedLanguagePrefix, WrongVariantPrefix, NoMemory}
+use Rattle.language_tags.specs.declared.error.ValidationError.TheVariants.{DuplicateVariant, DuplicateExtension, MultipleExtendedLanguageSubtags, PrimaryLanguageNotInRegistry, NoMemory}
 
 -- ---- a test of some
 
@@ -203,13 +203,13 @@ rules_speak R g =
       (
         λ e. cc,
         speak-append (flat_map (extlang_rules R (print g)) (extlangs_of g)) _
-        (speak-flat (extlang_rules R (print g)) (λ x. (λ e. cc, (λ e. cc, tt))) (extlangs_of g))
-        (speak-append (flat_map (script_rules R) (at_most_one (script_of g))) _
-        (speak-flat (script_rules R) (λ x. (λ e. cc, tt)) (at_most_one (script_of g)))
-        (speak-append (flat_map (region_rules R) (at_most_one (region_of g))) _
-        (speak-flat (region_rules R) (λ x. (λ e. cc, tt)) (at_most_one (region_of g)))
-        (speak-append (flat_map (variant_rules R (print g)) (variants_of g)) _
-        (speak-flat (variant_rules R (print g)) (λ x. (λ e. cc, (λ e. cc, tt))) (variants_of g))
-        (λ e. cc, (λ e. cc, tt))))),
+            (speak-flat (extlang_rules R (print g)) (λ x. (λ e. cc, (λ e. cc, tt))) (extlangs_of g))
+            (speak-append (flat_map (script_rules R) (at_most_one (script_of g))) _
+            (speak-flat (script_rules R) (λ x. (λ e. cc, tt)) (at_most_one (script_of g)))
+            (speak-append (flat_map (region_rules R) (at_most_one (region_of g))) _
+            (speak-flat (region_rules R) (λ x. (λ e. cc, tt)) (at_most_one (region_of g)))
+            (speak-append (flat_map (variant_rules R (print g)) (variants_of g)) _
+            (speak-flat (variant_rules R (print g)) (λ x. (λ e. cc, (λ e. cc, tt))) (variants_of g))
+            (λ e. cc, (λ e. cc, tt))))),
       ),
     )

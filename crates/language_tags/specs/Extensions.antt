@@ -2,7 +2,7 @@
 use Rattle.std.specs.Prelude.{◌≡◌, ℕ, ◌≤◌, List, Option, Some, None, length}
 use Rattle.std.specs.List.{AllByRecursion, flat_map}
 use Rattle.language_tags_grammar.specs.Kept.{grouped}
-use Rattle.language_tags_grammar.specs.Pieces.{joined, pieces, pieces_of}
+use Rattle.language_tags_grammar.specs.Pieces.{joined, pieces_of}
 use Rattle.language_tags_grammar.specs.Shapes.{IsExtension}
 use Rattle.language_tags_grammar.specs.Tag.{Extension, extension_pieces}
 

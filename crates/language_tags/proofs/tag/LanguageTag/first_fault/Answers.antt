@@ -1,5 +1,5 @@
 -- Each return by the rules that stand before it.
-use Rattle.std.proofs.Common.{◌≡◌, ◌∷◌, [], Some, None, true, false, ap, sym, ◌∙◌, arith, length, map}
+use Rattle.std.proofs.Common.{◌≡◌, ◌∷◌, [], true, false, ap, sym, ◌∙◌, arith, length}
 use Rattle.std.specs.Prelude.{nat_eq, nat_lt}
 use Rattle.std.specs.Str.{bytes_eq}
 use Rattle.std.proofs.lemmas.Bool.Decides.{nat_tests}
