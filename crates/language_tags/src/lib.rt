@@ -16,8 +16,8 @@
 //! - `error`: [`TagJsonError`], why a JSON value is no tag, and [`ValidationError`].
 //! - `part`: a part of a tag's text.
 //!
-//! The grammar stands in `language_tags_grammar`, and the registry in `language_tags_registry`; this
-//! crate passes them on.
+//! The grammar stands in `language_tags_grammar`, and the registry in `language_tags_registry`;
+//! this crate passes them on.
 #![tactic(auto)]
 
 mod error;

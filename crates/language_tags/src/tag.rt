@@ -1,4 +1,5 @@
-ghost use Rattle.std.specs.Prelude.{◌≡◌, ◌≢◌, ◌↔◌, ℕ, List, Some, None, IfOk, IfErr, IfSome, IsSome, IsTrue, nat_eq, string_bytes};
+ghost use Rattle.std.specs.Prelude.{◌≡◌, ◌≢◌, ◌↔◌, ℕ, List, Some, None, IfOk, IfErr, IfSome};
+ghost use Rattle.std.specs.Prelude.{IsSome, IsTrue, nat_eq, string_bytes};
 ghost use Rattle.std.specs.List.{flat_map, list_all};
 ghost use Rattle.std.specs.Option.{option_copied};
 ghost use Rattle.language_tags.specs.Equality.{Agree};
@@ -46,18 +47,23 @@ impl LanguageTag {
     ghost use Rattle.language_tags_grammar.specs.Pieces.{lowercase, part_text, pieces};
     ghost use Rattle.language_tags_grammar.specs.Scan.{scanned};
     ghost use Rattle.language_tags_grammar.specs.Tag.{Parts, Whole, Plain, print};
-    ghost use Rattle.language_tags_grammar.specs.Tag.{at_most_one, extension_pieces, extensions_of, extlangs_of, front_of, full_language_of, language_of, private_of, private_pieces, region_of, script_of, variants_of};
+    ghost use Rattle.language_tags_grammar.specs.Tag.{at_most_one, extension_pieces, extensions_of};
+    ghost use Rattle.language_tags_grammar.specs.Tag.{extlangs_of, front_of, full_language_of};
+    ghost use Rattle.language_tags_grammar.specs.Tag.{language_of, private_of, private_pieces};
+    ghost use Rattle.language_tags_grammar.specs.Tag.{region_of, script_of, variants_of};
     ghost use Rattle.std.specs.Str.{bytes_eq};
     ghost use Rattle.language_tags.specs.Equality.{IsRange, Matches};
     ghost use Rattle.language_tags.specs.Valid.{are_different};
-    ghost use Rattle.language_tags_grammar.specs.TagFault.{IsFaultBehindX, IsFaultOf, IsFaultOfPieces};
+    ghost use Rattle.language_tags_grammar.specs.TagFault.{IsFaultBehindX, IsFaultOf};
+    ghost use Rattle.language_tags_grammar.specs.TagFault.{IsFaultOfPieces};
     ghost use Rattle.language_tags_grammar.specs.TagOf.{IsLangtag, IsTagOf, StandsBehindX};
     ghost use Rattle.language_tags_grammar.specs.Shapes.{is_private};
 
     /// The tag that a text is.
     pub fn parse(alloc: Global, input: &str) -> Result<LanguageTag, ParseError>
         ensures ok { IfOk result (IsTagOf input.now) }
-        ensures err { IfErr result (λ fault. fault ≢ ParseError.NoMemory → IsFaultOf input.now fault) }
+        ensures err { IfErr result (λ fault. fault ≢ ParseError.NoMemory
+            → IsFaultOf input.now fault) }
     {
         match grandfathered(input) {
             Some(tag) => match LanguageTag::whole(alloc, tag) {
@@ -74,8 +80,10 @@ impl LanguageTag {
     /// The tag of a text that begins with `x-`, with `rest` behind it.
     fn private_tag(alloc: Global, text: &str, rest: &str) -> Result<LanguageTag, ParseError>
         requires { StandsBehindX (lowercase rest.now) text.now }
-        ensures ok { IfOk result (λ tag. IsTrue (list_all is_private (pieces (lowercase rest.now))) × (tag ≡ Whole (lowercase text.now))) }
-        ensures err { IfErr result (λ fault. fault ≢ ParseError.NoMemory → IsFaultBehindX (lowercase rest.now) fault) }
+        ensures ok { IfOk result (λ tag. IsTrue (list_all is_private (pieces (lowercase rest.now)))
+            × (tag ≡ Whole (lowercase text.now))) }
+        ensures err { IfErr result (λ fault. fault ≢ ParseError.NoMemory
+            → IsFaultBehindX (lowercase rest.now) fault) }
     {
         check(rest)?;
         match LanguageTag::whole_in_lowercase(alloc, text) {
@@ -87,7 +95,8 @@ impl LanguageTag {
     /// The tag of any other text.
     fn langtag(alloc: Global, text: &str) -> Result<LanguageTag, ParseError>
         ensures ok { IfOk result (λ tag. (p : Parts) × IsLangtag text.now p × (tag ≡ Plain p)) }
-        ensures err { IfErr result (λ fault. fault ≢ ParseError.NoMemory → IsFaultOfPieces (pieces (lowercase text.now)) fault) }
+        ensures err { IfErr result (λ fault. fault ≢ ParseError.NoMemory
+            → IsFaultOfPieces (pieces (lowercase text.now)) fault) }
     {
         let ends = scan(text)?;
         match LanguageTag::with_ends(alloc, text, ends) {
@@ -218,7 +227,8 @@ impl LanguageTag {
 
     /// The extensions, each with its singleton.
     pub fn extension(&self) -> Option<&str>
-        ensures value { option_copied result ≡ part_text (flat_map extension_pieces (extensions_of self.now)) }
+        ensures value { option_copied result
+            ≡ part_text (flat_map extension_pieces (extensions_of self.now)) }
     {
         match &self.ends {
             None => None,
@@ -297,8 +307,8 @@ impl LanguageTag {
         }
     }
 
-    /// Whether a tag has this range's full language, its script and region where it has them, and its variants in
-    /// the places that both have.
+    /// Whether a tag has this range's full language, its script and region where it has them, and
+    /// its variants in the places that both have.
     pub fn matches(&self, other: &LanguageTag) -> bool
         requires { IsRange self.now }
         ensures { IsTrue result ↔ Matches self.now other.now }
@@ -321,10 +331,12 @@ impl LanguageTag {
 
     /// The tag that a JSON text is, by `parse`.
     pub fn from_json(alloc: Global, value: &Value) -> Result<LanguageTag, TagJsonError>
-        ensures ok { IfOk result (λ tag. IfSome (as_str (view value.now)) (λ text. IsTagOf text tag)) }
+        ensures ok { IfOk result
+            (λ tag. IfSome (as_str (view value.now)) (λ text. IsTagOf text tag)) }
         ensures some { IfOk result (λ _. IsSome (as_str (view value.now))) }
         ensures not_text { result ≡ Err TagJsonError.NotText → as_str (view value.now) ≡ None }
-        ensures fault { (fault : Fault) → result ≡ Err (TagJsonError.Parse fault) → fault ≢ ParseError.NoMemory
+        ensures fault { (fault : Fault) → result ≡ Err (TagJsonError.Parse fault)
+            → fault ≢ ParseError.NoMemory
             × IfSome (as_str (view value.now)) (λ text. IsFaultOf text fault) }
     {
         let Some(text) = value.as_str() else {
@@ -399,7 +411,8 @@ impl Hash for LanguageTag {
 
 /// Whether a part is missing or is the same in the other tag.
 fn is_none_or_equal(part: Option<&str>, other: Option<&str>) -> bool
-    ensures { IsTrue result ↔ IfSome (option_copied part.entry) (λ p. option_copied other.entry ≡ Some p) }
+    ensures { IsTrue result
+        ↔ IfSome (option_copied part.entry) (λ p. option_copied other.entry ≡ Some p) }
 {
     match (part, other) {
         (None, _) => true,

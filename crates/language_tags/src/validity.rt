@@ -1,11 +1,16 @@
 //! Whether a tag is valid over a registry.
-ghost use Rattle.std.specs.Prelude.{◌≡◌, ◌≢◌, ◌↔◌, ℕ, List, Some, None, IsTrue, MatchResult, nat_lt, nat_eq, map, length};
+ghost use Rattle.std.specs.Prelude.{◌≡◌, ◌≢◌, ◌↔◌, ℕ, List, Some, None, IsTrue, MatchResult};
+ghost use Rattle.std.specs.Prelude.{nat_lt, nat_eq, map, length};
 ghost use Rattle.std.specs.List.{flat_map, list_any, slice_split};
 ghost use Rattle.std.specs.Str.{bytes_eq};
 ghost use Rattle.writeable_core.specs.FirstFailure.{first_failure};
 ghost use Rattle.language_tags_grammar.specs.Pieces.{pieces};
-ghost use Rattle.language_tags_grammar.specs.Tag.{at_most_one, extensions_of, extlangs_of, print, region_of, script_of, variants_of};
-ghost use Rattle.language_tags.specs.Valid.{are_different, begins, extlang_rules, follows_any_prefix, is_known_language, is_known_region, is_known_script, is_space, lies_in, region_rules, rules, script_rules, valid, variant_rules};
+ghost use Rattle.language_tags_grammar.specs.Tag.{at_most_one, extensions_of, extlangs_of, print};
+ghost use Rattle.language_tags_grammar.specs.Tag.{region_of, script_of, variants_of};
+ghost use Rattle.language_tags.specs.Valid.{are_different, begins, extlang_rules};
+ghost use Rattle.language_tags.specs.Valid.{follows_any_prefix, is_known_language, is_known_region};
+ghost use Rattle.language_tags.specs.Valid.{is_known_script, is_space, lies_in, region_rules};
+ghost use Rattle.language_tags.specs.Valid.{rules, script_rules, valid, variant_rules};
 
 use crate::{ExtensionsIterator, LanguageTag, SubtagsIter, ValidationError};
 use language_tags_grammar::is_grandfathered;
@@ -14,7 +19,8 @@ use language_tags_registry::{Registry, RegistryTable};
 impl LanguageTag {
     /// The first rule of RFC 5646, section 2.2.9, that the tag breaks. No memory is taken.
     pub fn validate(&self, registry: &Registry) -> Result<(), ValidationError>
-        ensures fault { MatchResult result (λ _. valid registry.now self.now ≡ None) (λ fault. valid registry.now self.now ≡ Some fault) }
+        ensures fault { MatchResult result (λ _. valid registry.now self.now ≡ None)
+            (λ fault. valid registry.now self.now ≡ Some fault) }
         ensures memory { result ≢ Err ValidationError.NoMemory }
     {
         let text = self.as_str();
@@ -73,7 +79,9 @@ impl LanguageTag {
     }
 
     fn extlang_fault(&self, registry: &Registry) -> Option<ValidationError>
-        ensures { result ≡ first_failure (flat_map (extlang_rules registry.now (print self.now)) (extlangs_of self.now)) }
+        ensures { result
+            ≡ first_failure
+            (flat_map (extlang_rules registry.now (print self.now)) (extlangs_of self.now)) }
     {
         let text = self.as_str();
         for extlang in self.extended_language_subtags() {
@@ -85,7 +93,9 @@ impl LanguageTag {
     }
 
     fn script_fault(&self, registry: &Registry) -> Option<ValidationError>
-        ensures { result ≡ first_failure (flat_map (script_rules registry.now) (at_most_one (script_of self.now))) }
+        ensures { result
+            ≡ first_failure
+            (flat_map (script_rules registry.now) (at_most_one (script_of self.now))) }
     {
         match self.script() {
             Some(script) => {
@@ -100,7 +110,9 @@ impl LanguageTag {
     }
 
     fn region_fault(&self, registry: &Registry) -> Option<ValidationError>
-        ensures { result ≡ first_failure (flat_map (region_rules registry.now) (at_most_one (region_of self.now))) }
+        ensures { result
+            ≡ first_failure
+            (flat_map (region_rules registry.now) (at_most_one (region_of self.now))) }
     {
         match self.region() {
             Some(region) => {
@@ -115,7 +127,9 @@ impl LanguageTag {
     }
 
     fn variant_fault(&self, registry: &Registry) -> Option<ValidationError>
-        ensures { result ≡ first_failure (flat_map (variant_rules registry.now (print self.now)) (variants_of self.now)) }
+        ensures { result
+            ≡ first_failure
+            (flat_map (variant_rules registry.now (print self.now)) (variants_of self.now)) }
     {
         let text = self.as_str();
         for variant in self.variant_subtags() {
