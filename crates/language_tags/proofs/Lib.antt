@@ -1,3 +1,5 @@
 mod PartLaws
 mod AgreeLaws
 mod KeptUse
+mod ExtensionLaws
+mod ValidLaws

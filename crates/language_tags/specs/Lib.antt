@@ -5,5 +5,8 @@ pub use Rattle.language_tags_grammar.specs.Grandfathered
 pub use Rattle.language_tags_grammar.specs.TagOf
 pub use Rattle.language_tags_grammar.specs.Begun
 pub use Rattle.language_tags_grammar.specs.TagFault
+pub mod Extensions
+pub mod PrivateUse
+pub mod Valid
 pub mod Equality
 pub mod EqualityLaws

@@ -1,7 +1,8 @@
 //! Language tags of BCP 47 (RFC 5646).
 //!
-//! A text is a tag where it is a grandfathered tag, begins with `x-`, or is a language with the parts that may follow
-//! it. A tag prints in the case that the RFC recommends.
+//! A text is a tag where it is a grandfathered tag, begins with `x-`, or is a language with the
+//! parts that may follow it. A tag prints in the case that the RFC recommends. Over a registry of
+//! subtags a tag is valid or has a first fault, and has a canonical form.
 //!
 //! ```
 //! let tag = LanguageTag::parse(alloc, "ZH-cmn-hans-cn")?;
@@ -10,29 +11,26 @@
 //! ```
 //!
 //! - `tag`: [`LanguageTag`], its parts, and what it matches.
-//! - `subtags`: [`SubtagsIter`], the subtags of a part one by one.
-//! - `error`: [`ParseError`], why a text is no tag, and [`TagJsonError`].
-//! - `grandfathered`: [`GRANDFATHEREDS`], the tags that are kept as they are.
-//! - `laws`: [`texts_and_tags`], what holds of every text and its tag.
-//! - `scan`, `stage`, `ends`, `private_use`: the scanner, which says where the parts of a text end, or its first fault.
-//! - `case`, `part`, `characters`: the case of a tag, a part of its text, and of which characters a text is.
+//! - `extensions`: [`ExtensionsIterator`], the extensions of a tag one by one.
+//! - `validity`: whether a tag is valid.
+//! - `error`: [`TagJsonError`], why a JSON value is no tag, and [`ValidationError`].
+//! - `part`: a part of a tag's text.
+//!
+//! The grammar stands in `language_tags_grammar`, and the registry in `language_tags_registry`;
+//! this crate passes them on.
 #![tactic(auto)]
 
-mod case;
-mod characters;
-mod ends;
 mod error;
-mod grandfathered;
-mod laws;
+mod extensions;
 mod part;
-mod private_use;
-mod scan;
-mod stage;
-mod subtags;
 mod tag;
+mod validity;
 
-pub use error::{ParseError, TagJsonError};
-pub use grandfathered::GRANDFATHEREDS;
-pub use laws::texts_and_tags;
-pub use subtags::SubtagsIter;
+pub use error::{TagJsonError, ValidationError};
+pub use extensions::ExtensionsIterator;
+pub use language_tags_grammar::{GRANDFATHEREDS, ParseError, SubtagsIter, texts_and_tags};
+pub use language_tags_registry::{
+    LanguageSubtag, RegionSubtag, Registry, RegistryError, RegistryRows, RegistryTable,
+    ScriptSubtag, SubtagError,
+};
 pub use tag::LanguageTag;

@@ -14,12 +14,14 @@ pub(crate) fn front(text: &str, end: usize) -> &str
     &text[..end]
 }
 
-/// The text of the pieces that stand between two places, each with a dash before it; None where there is none.
+/// The text of the pieces that stand between two places, each with a dash before it; None where
+/// there is none.
 pub(crate) fn part(text: &str, start: usize, end: usize) -> Option<&str>
     requires ascii { IsAscii text.now }
     requires ordered { start ≤ end }
     requires within { end ≤ length text.now }
-    ensures { (ps : List (List ℕ)) → between start end text.now ≡ dashed ps → option_copied result ≡ part_text ps }
+    ensures { (ps : List (List ℕ)) → between start end text.now ≡ dashed ps
+        → option_copied result ≡ part_text ps }
 {
     if start == end {
         None

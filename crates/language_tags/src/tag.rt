@@ -1,15 +1,17 @@
-ghost use Rattle.std.specs.Prelude.{◌≡◌, ◌≢◌, ◌↔◌, ℕ, List, Some, None, IfOk, IfErr, IfSome, IsSome, IsTrue, nat_eq, string_bytes};
+ghost use Rattle.std.specs.Prelude.{◌≡◌, ◌≢◌, ◌↔◌, ℕ, List, Some, None, IfOk, IfErr, IfSome};
+ghost use Rattle.std.specs.Prelude.{IsSome, IsTrue, nat_eq, string_bytes};
 ghost use Rattle.std.specs.List.{flat_map, list_all};
 ghost use Rattle.std.specs.Option.{option_copied};
 ghost use Rattle.language_tags.specs.Equality.{Agree};
 
-use crate::case::{in_case, push_lowercase};
-use crate::ends::Ends;
-use crate::grandfathered::grandfathered;
 use crate::part::{front, part};
-use crate::private_use::{behind_x, check};
-use crate::scan::scan;
-use crate::{ParseError, SubtagsIter, TagJsonError};
+use crate::validity::has_different_pieces;
+use crate::{ExtensionsIterator, ParseError, SubtagsIter, TagJsonError};
+use language_tags_grammar::case::{in_case, push_lowercase};
+use language_tags_grammar::ends::Ends;
+use language_tags_grammar::grandfathered::grandfathered;
+use language_tags_grammar::private_use::{behind_x, check};
+use language_tags_grammar::scan::scan;
 use serde_json::Value;
 use std::alloc::{AllocError, Global};
 use std::fmt;
@@ -45,16 +47,23 @@ impl LanguageTag {
     ghost use Rattle.language_tags_grammar.specs.Pieces.{lowercase, part_text, pieces};
     ghost use Rattle.language_tags_grammar.specs.Scan.{scanned};
     ghost use Rattle.language_tags_grammar.specs.Tag.{Parts, Whole, Plain, print};
-    ghost use Rattle.language_tags_grammar.specs.Tag.{at_most_one, extension_pieces, extensions_of, extlangs_of, front_of, full_language_of, language_of, private_of, private_pieces, region_of, script_of, variants_of};
+    ghost use Rattle.language_tags_grammar.specs.Tag.{at_most_one, extension_pieces, extensions_of};
+    ghost use Rattle.language_tags_grammar.specs.Tag.{extlangs_of, front_of, full_language_of};
+    ghost use Rattle.language_tags_grammar.specs.Tag.{language_of, private_of, private_pieces};
+    ghost use Rattle.language_tags_grammar.specs.Tag.{region_of, script_of, variants_of};
+    ghost use Rattle.std.specs.Str.{bytes_eq};
     ghost use Rattle.language_tags.specs.Equality.{IsRange, Matches};
-    ghost use Rattle.language_tags_grammar.specs.TagFault.{IsFaultBehindX, IsFaultOf, IsFaultOfPieces};
+    ghost use Rattle.language_tags.specs.Valid.{are_different};
+    ghost use Rattle.language_tags_grammar.specs.TagFault.{IsFaultBehindX, IsFaultOf};
+    ghost use Rattle.language_tags_grammar.specs.TagFault.{IsFaultOfPieces};
     ghost use Rattle.language_tags_grammar.specs.TagOf.{IsLangtag, IsTagOf, StandsBehindX};
     ghost use Rattle.language_tags_grammar.specs.Shapes.{is_private};
 
     /// The tag that a text is.
     pub fn parse(alloc: Global, input: &str) -> Result<LanguageTag, ParseError>
         ensures ok { IfOk result (IsTagOf input.now) }
-        ensures err { IfErr result (λ fault. fault ≢ ParseError.NoMemory → IsFaultOf input.now fault) }
+        ensures err { IfErr result (λ fault. fault ≢ ParseError.NoMemory
+            → IsFaultOf input.now fault) }
     {
         match grandfathered(input) {
             Some(tag) => match LanguageTag::whole(alloc, tag) {
@@ -71,8 +80,10 @@ impl LanguageTag {
     /// The tag of a text that begins with `x-`, with `rest` behind it.
     fn private_tag(alloc: Global, text: &str, rest: &str) -> Result<LanguageTag, ParseError>
         requires { StandsBehindX (lowercase rest.now) text.now }
-        ensures ok { IfOk result (λ tag. IsTrue (list_all is_private (pieces (lowercase rest.now))) × (tag ≡ Whole (lowercase text.now))) }
-        ensures err { IfErr result (λ fault. fault ≢ ParseError.NoMemory → IsFaultBehindX (lowercase rest.now) fault) }
+        ensures ok { IfOk result (λ tag. IsTrue (list_all is_private (pieces (lowercase rest.now)))
+            × (tag ≡ Whole (lowercase text.now))) }
+        ensures err { IfErr result (λ fault. fault ≢ ParseError.NoMemory
+            → IsFaultBehindX (lowercase rest.now) fault) }
     {
         check(rest)?;
         match LanguageTag::whole_in_lowercase(alloc, text) {
@@ -84,7 +95,8 @@ impl LanguageTag {
     /// The tag of any other text.
     fn langtag(alloc: Global, text: &str) -> Result<LanguageTag, ParseError>
         ensures ok { IfOk result (λ tag. (p : Parts) × IsLangtag text.now p × (tag ≡ Plain p)) }
-        ensures err { IfErr result (λ fault. fault ≢ ParseError.NoMemory → IsFaultOfPieces (pieces (lowercase text.now)) fault) }
+        ensures err { IfErr result (λ fault. fault ≢ ParseError.NoMemory
+            → IsFaultOfPieces (pieces (lowercase text.now)) fault) }
     {
         let ends = scan(text)?;
         match LanguageTag::with_ends(alloc, text, ends) {
@@ -215,7 +227,8 @@ impl LanguageTag {
 
     /// The extensions, each with its singleton.
     pub fn extension(&self) -> Option<&str>
-        ensures value { option_copied result ≡ part_text (flat_map extension_pieces (extensions_of self.now)) }
+        ensures value { option_copied result
+            ≡ part_text (flat_map extension_pieces (extensions_of self.now)) }
     {
         match &self.ends {
             None => None,
@@ -263,6 +276,14 @@ impl LanguageTag {
         SubtagsIter::new(self.variant())
     }
 
+    /// The extensions one by one, each its singleton and its content.
+    pub fn extension_subtags(&self) -> ExtensionsIterator<'_>
+        ensures { result ≡ extensions_of self.now }
+    {
+        let _ends = &self.ends;
+        ExtensionsIterator::new(self.extension())
+    }
+
     /// The pieces of private use, without the `x`.
     pub fn private_use_subtags(&self) -> SubtagsIter<'_>
         ensures { result ≡ private_of self.now }
@@ -274,8 +295,20 @@ impl LanguageTag {
         }
     }
 
-    /// Whether a tag has this range's full language, its script and region where it has them, and its variants in
-    /// the places that both have.
+    /// Whether no variant stands twice. Each is looked for behind it: where all are in a registry,
+    /// as they are here, that is at most once for each of the registry's variants.
+    pub(crate) fn has_different_variants(&self) -> bool
+        ensures { result ≡ are_different bytes_eq (variants_of self.now) }
+    {
+        let _ends = &self.ends;
+        match self.variant() {
+            Some(text) => has_different_pieces(text),
+            None => true,
+        }
+    }
+
+    /// Whether a tag has this range's full language, its script and region where it has them, and
+    /// its variants in the places that both have.
     pub fn matches(&self, other: &LanguageTag) -> bool
         requires { IsRange self.now }
         ensures { IsTrue result ↔ Matches self.now other.now }
@@ -298,10 +331,12 @@ impl LanguageTag {
 
     /// The tag that a JSON text is, by `parse`.
     pub fn from_json(alloc: Global, value: &Value) -> Result<LanguageTag, TagJsonError>
-        ensures ok { IfOk result (λ tag. IfSome (as_str (view value.now)) (λ text. IsTagOf text tag)) }
+        ensures ok { IfOk result
+            (λ tag. IfSome (as_str (view value.now)) (λ text. IsTagOf text tag)) }
         ensures some { IfOk result (λ _. IsSome (as_str (view value.now))) }
         ensures not_text { result ≡ Err TagJsonError.NotText → as_str (view value.now) ≡ None }
-        ensures fault { (fault : Fault) → result ≡ Err (TagJsonError.Parse fault) → fault ≢ ParseError.NoMemory
+        ensures fault { (fault : Fault) → result ≡ Err (TagJsonError.Parse fault)
+            → fault ≢ ParseError.NoMemory
             × IfSome (as_str (view value.now)) (λ text. IsFaultOf text fault) }
     {
         let Some(text) = value.as_str() else {
@@ -376,7 +411,8 @@ impl Hash for LanguageTag {
 
 /// Whether a part is missing or is the same in the other tag.
 fn is_none_or_equal(part: Option<&str>, other: Option<&str>) -> bool
-    ensures { IsTrue result ↔ IfSome (option_copied part.entry) (λ p. option_copied other.entry ≡ Some p) }
+    ensures { IsTrue result
+        ↔ IfSome (option_copied part.entry) (λ p. option_copied other.entry ≡ Some p) }
 {
     match (part, other) {
         (None, _) => true,

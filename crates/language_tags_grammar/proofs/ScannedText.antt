@@ -1,28 +1,24 @@
 -- What the scanner says of a text, and the pieces of clean texts.
-use Rattle.std.proofs.Common.{Bor, ◌≡◌, ℕ, ◌+◌, ◌<◌, ◌≤◌, Bool, true, false, not, cond, List, [], ◌∷◌, ◌++◌, Option, Some, None, MatchResult, Ok, length, take, drop, refl, sym, ap, ◌∙◌, arith, append_assoc, length-append, subst, map}
-use Rattle.std.specs.Prelude.{MatchOption, codes, is_none, is_some, nat_eq}
-use Rattle.std.proofs.lemmas.List.Splits.{join_with_byte-slice_split}
+use Rattle.std.proofs.Common.{◌≡◌, ℕ, ◌≤◌, true, List, [], ◌∷◌, ◌++◌, MatchResult, Ok, length, take, drop, refl, sym, ap, ◌∙◌, arith, length-append, subst}
+use Rattle.std.specs.Prelude.{codes, nat_eq}
 use Rattle.std.proofs.lemmas.Slice.Eq.{bytes_eq-Decides}
 use Rattle.std.proofs.lemmas.Bool.Decides.{nat_tests}
-use Rattle.std.specs.List.{flat_map, list_all, starts_with}
+use Rattle.std.specs.List.{starts_with}
 use Rattle.std.specs.Str.{IsAscii, IsUtf8}
-use Rattle.std.proofs.lemmas.List.{length-map, take-append-drop, take_at, take_rest}
+use Rattle.std.proofs.lemmas.List.{length-map, take-append-drop}
 use Rattle.std.proofs.lemmas.Str.{IsUtf8-from_ascii}
-use Rattle.std.specs.Char.{is_ascii_alphanumeric, to_ascii_lowercase}
-use Rattle.std.specs.Option.{option_copied}
-use Rattle.std.specs.Str.Pattern.{FindsTextPrefix}
+use Rattle.std.specs.Char.{to_ascii_lowercase}
 use Rattle.language_tags_grammar.specs.Case.{in_case}
-use Rattle.language_tags_grammar.specs.Kept.{EndAt, IsKept, KeepsParts, between, parts_at, tag_at}
-use Rattle.language_tags_grammar.specs.Pieces.{dashed, joined, lowercase, part_text, pieces, pieces_of}
+use Rattle.language_tags_grammar.specs.Kept.{EndAt, KeepsParts, parts_at}
+use Rattle.language_tags_grammar.specs.Pieces.{joined, lowercase, part_text, pieces, pieces_of}
 use Rattle.language_tags_grammar.specs.Scan.{scanned}
-use Rattle.language_tags_grammar.specs.Shapes.{is_extlang, is_private, is_variant}
-use Rattle.language_tags_grammar.specs.Tag.{Extension, Parts, Tag, Whole, Plain, at_most_one, extension_pieces, extensions_of, extlangs_of, front_of, full_language_of, language_of, print, private_of, private_pieces, region_of, script_of, variants_of, written}
+use Rattle.language_tags_grammar.specs.Tag.{Parts, written}
 use Rattle.language_tags_grammar.specs.TagFault.{IsFaultOfPieces}
 use Rattle.language_tags_grammar.specs.declared.ends.Ends.{Ends}
 use Rattle.language_tags_grammar.proofs.CaseLaws.{in_case-parts, scanned-ends, scanned-text, small, small-ends}
 use Rattle.language_tags_grammar.proofs.Faults.{Scanned, scanned_law}
-use Rattle.language_tags_grammar.proofs.KeptLaws.{AreClean, E, IsClean, P, R, S, T, V, X, at-extensions, at-extlangs, at-language, at-private, at-region, at-script, at-variants, dashed-append, each-clean, joined-dashed, keeps, parts_at-text, pieces-dashed, pieces-print, print-ascii, smalls-clean, text-parts}
-use Rattle.language_tags_grammar.proofs.PartsLaws.{extlang-small, private-small, variant-small, written-lowercase}
+use Rattle.language_tags_grammar.proofs.KeptLaws.{AreClean, E, IsClean, P, R, S, V, X, joined-dashed, keeps, parts_at-text, pieces-dashed, print-ascii, text-parts}
+use Rattle.language_tags_grammar.proofs.PartsLaws.{written-lowercase}
 use Rattle.language_tags_grammar.proofs.PieceLaws.{some_piece}
 
 pub begins-x : (t : List ℕ) → starts_with nat_eq t (codes "x-") ≡ true → codes "x-" ++ drop 2 t ≡ t

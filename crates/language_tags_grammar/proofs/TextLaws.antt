@@ -1,5 +1,5 @@
 -- Whether a text is a tag, and its own printed form.
-use Rattle.std.proofs.Common.{Bor, ◌≡◌, ℕ, zero, suc, ◌+◌, ◌-◌, ◌≤◌, ◌↔◌, Bool, true, false, not, List, [], ◌∷◌, ◌++◌, Option, Some, None, Result, Ok, Err, MatchResult, length, take, drop, refl, sym, ap, ◌∙◌, subst, arith, map, append_assoc}
+use Rattle.std.proofs.Common.{Bor, ◌≡◌, ℕ, ◌+◌, ◌-◌, ◌≤◌, ◌↔◌, Bool, true, false, not, List, [], ◌∷◌, ◌++◌, Option, Some, None, Result, Ok, Err, MatchResult, length, take, drop, refl, sym, ap, ◌∙◌, subst, arith, map, append_assoc}
 use Rattle.std.specs.Prelude.{IsTrue, is_ok, is_some}
 use Rattle.std.specs.Option.{option_copied}
 use Rattle.std.specs.Char.{is_ascii_lowercase, is_ascii_uppercase, to_ascii_lowercase, to_ascii_uppercase}
@@ -9,10 +9,10 @@ use Rattle.std.proofs.lemmas.List.{drop-drop, length-map, take-append-drop, take
 use Rattle.language_tags_grammar.specs.Case.{capital, in_case}
 use Rattle.language_tags_grammar.specs.Grandfathered.{grandfathered}
 use Rattle.language_tags_grammar.specs.Kept.{between}
-use Rattle.language_tags_grammar.specs.Pieces.{joined, lowercase, pieces, uppercase}
+use Rattle.language_tags_grammar.specs.Pieces.{lowercase, pieces, uppercase}
 use Rattle.language_tags_grammar.specs.Scan.{scanned}
 use Rattle.language_tags_grammar.specs.Shapes.{is_private}
-use Rattle.language_tags_grammar.specs.Tag.{Parts, Tag, Whole, Plain, print, written}
+use Rattle.language_tags_grammar.specs.Tag.{Tag, Whole, Plain, print}
 use Rattle.language_tags_grammar.specs.TagFault.{IsFaultBehindX, IsFaultOf, IsFaultOfPieces, behind_x, in_pieces}
 use Rattle.language_tags_grammar.specs.TagOf.{BeginsOtherwise, IsTagOf, StandsBehindX, langtag, private_use, whole}
 use Rattle.language_tags_grammar.specs.declared.ends.Ends.{Ends}

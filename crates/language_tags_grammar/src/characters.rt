@@ -1,6 +1,7 @@
 //! Of which characters a text is.
 ghost use Rattle.std.specs.Prelude.{◌≡◌, not};
-ghost use Rattle.std.specs.Char.{is_ascii_alphabetic, is_ascii_alphanumeric, is_ascii_digit, is_ascii_lowercase, is_ascii_uppercase};
+ghost use Rattle.std.specs.Char.{is_ascii_alphabetic, is_ascii_alphanumeric, is_ascii_digit};
+ghost use Rattle.std.specs.Char.{is_ascii_lowercase, is_ascii_uppercase};
 ghost use Rattle.std.specs.List.{list_all};
 
 pub fn are_alphabetic(text: &[u8]) -> bool

@@ -2,7 +2,8 @@ ghost use Rattle.std.specs.Prelude.{◌≡◌, List, ℕ, map};
 ghost use Rattle.std.specs.List.{find};
 ghost use Rattle.std.specs.Option.{option_copied};
 ghost use Rattle.std.specs.Str.{bytes_eq};
-ghost use Rattle.language_tags_grammar.specs.Grandfathered.{grandfathered, is_grandfathered, may_be_grandfathered};
+ghost use Rattle.language_tags_grammar.specs.Grandfathered.{grandfathered, is_grandfathered};
+ghost use Rattle.language_tags_grammar.specs.Grandfathered.{may_be_grandfathered};
 ghost use Rattle.language_tags_grammar.specs.Pieces.{lowercase};
 
 /// The grandfathered tags of RFC 5646.
@@ -60,7 +61,9 @@ fn may_be_grandfathered(text: &[u8]) -> bool
 }
 
 fn find_without_case<'a>(tags: &[&'a str], text: &str) -> Option<&'a str>
-    ensures { option_copied result ≡ find (λ tag. bytes_eq (lowercase tag) (lowercase text.now)) (map (λ tag. tag.now) tags.now) }
+    ensures { option_copied result
+        ≡ find (λ tag. bytes_eq (lowercase tag) (lowercase text.now))
+        (map (λ tag. tag.now) tags.now) }
 {
     for tag in tags {
         if tag.eq_ignore_ascii_case(text) {

@@ -12,7 +12,8 @@
 //! - `texts`: [`is_tag`] and [`is_printed_tag`], whether a text is a tag, and in its own case.
 //! - `error`: [`ParseError`], why a text is no tag.
 //! - `subtags`: [`SubtagsIter`], the subtags of a text one by one.
-//! - `grandfathered`: [`GRANDFATHEREDS`], the tags that are kept as they are, and [`is_grandfathered`].
+//! - `grandfathered`: [`GRANDFATHEREDS`], the tags that are kept as they are, and
+//!   [`is_grandfathered`].
 //! - `laws`: [`texts_and_tags`], what holds of every text and its tag.
 //! - `scan`, `ends`, `private_use`: the scanner, which says where the parts of a text end, or its
 //!   first fault.

@@ -11,7 +11,8 @@ use crate::{ParseError, SubtagsIter};
 
 /// What stands behind the `x-` that a text begins with.
 pub fn behind_x(text: &str) -> Option<&str>
-    ensures { MatchOption result (BeginsOtherwise text.now) (λ rest. StandsBehindX (lowercase rest.now) text.now) }
+    ensures { MatchOption result (BeginsOtherwise text.now)
+        (λ rest. StandsBehindX (lowercase rest.now) text.now) }
 {
     match text.split_once('-') {
         Some((first, rest)) => {
@@ -27,7 +28,8 @@ pub fn behind_x(text: &str) -> Option<&str>
 
 /// Looks for the fault of what stands behind `x-`.
 pub fn check(rest: &str) -> Result<(), ParseError>
-    ensures { MatchResult result (λ _. IsTrue (list_all is_private (pieces (lowercase rest.now)))) (IsFaultBehindX (lowercase rest.now)) }
+    ensures { MatchResult result (λ _. IsTrue (list_all is_private (pieces (lowercase rest.now))))
+        (IsFaultBehindX (lowercase rest.now)) }
 {
     if !are_allowed(rest.as_bytes()) {
         return Err(ParseError::ForbiddenChar);

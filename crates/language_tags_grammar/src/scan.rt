@@ -3,8 +3,13 @@ ghost use Rattle.std.specs.Prelude.{◌≡◌};
 ghost use Rattle.std.specs.Char.{is_ascii_digit, is_ascii_lowercase};
 ghost use Rattle.std.specs.List.{list_all};
 ghost use Rattle.language_tags_grammar.specs.Pieces.{lowercase, pieces};
-ghost use Rattle.language_tags_grammar.specs.Scan.{at_last, at_start, behind_content, behind_extlang, behind_extlangs, behind_region, behind_script, behind_singleton, behind_x, ends_at, in_place, is_single, is_small_region, is_small_script, opening, scanned, stage_after};
-ghost use Rattle.language_tags_grammar.specs.Shapes.{is_content, is_extlang, is_private, is_small, is_variant};
+ghost use Rattle.language_tags_grammar.specs.Scan.{at_last, at_start, behind_content};
+ghost use Rattle.language_tags_grammar.specs.Scan.{behind_extlang, behind_extlangs, behind_region};
+ghost use Rattle.language_tags_grammar.specs.Scan.{behind_script, behind_singleton, behind_x};
+ghost use Rattle.language_tags_grammar.specs.Scan.{ends_at, in_place, is_single, is_small_region};
+ghost use Rattle.language_tags_grammar.specs.Scan.{is_small_script, opening, scanned, stage_after};
+ghost use Rattle.language_tags_grammar.specs.Shapes.{is_content, is_extlang, is_private, is_small};
+ghost use Rattle.language_tags_grammar.specs.Shapes.{is_variant};
 
 use crate::characters::{are_alphabetic, are_alphanumeric, are_numeric};
 use crate::ends::Ends;
@@ -38,7 +43,8 @@ pub fn scan(text: &str) -> Result<Ends, ParseError>
     }
 }
 
-/// The ends, once a piece that ends at `end` has led to the stage. Parts that may still follow are empty there.
+/// The ends, once a piece that ends at `end` has led to the stage. Parts that may still follow are
+/// empty there.
 fn ends_at(ends: Ends, stage: Stage, end: usize) -> Ends
     ensures { result ≡ ends_at ends stage end }
 {

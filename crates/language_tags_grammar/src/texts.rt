@@ -64,7 +64,8 @@ fn is_in_case(text: &[u8], ends: &Ends) -> bool
 
 /// Whether one text is in lower case and the next in upper case.
 fn is_cased(small: &[u8], capital: &[u8]) -> bool
-    ensures { IsTrue result ↔ ((lowercase small.now ≡ small.now) × (uppercase capital.now ≡ capital.now)) }
+    ensures { IsTrue result
+        ↔ ((lowercase small.now ≡ small.now) × (uppercase capital.now ≡ capital.now)) }
 {
     is_in_lowercase(small) && is_in_uppercase(capital)
 }

@@ -1,4 +1,4 @@
-use Rattle.std.proofs.Common.{sym, ◌∙◌, Some, None}
+use Rattle.std.proofs.Common.{◌∙◌, Some, None}
 use Rattle.language_tags_grammar.proofs.FindLaws.{is_grandfathered_is}
 use Rattle.language_tags_grammar.proofs.grandfathered.is_grandfathered.Goals as goal
 

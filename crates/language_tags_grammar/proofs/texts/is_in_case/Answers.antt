@@ -1,5 +1,5 @@
 -- The two pairs of sections and the last are in their case.
-use Rattle.std.proofs.Common.{◌≡◌, true, false, sym, ap, ◌∙◌, arith}
+use Rattle.std.proofs.Common.{◌≡◌, true, false, sym, ◌∙◌, arith}
 use Rattle.language_tags_grammar.specs.Case.{capital}
 use Rattle.language_tags_grammar.proofs.TextLaws.{FirstPair, SecondPair, pairs_there, there_pairs}
 use Rattle.language_tags_grammar.proofs.texts.is_in_case.Goals as goal

@@ -1,4 +1,4 @@
-use Rattle.std.proofs.Common.{sym, ◌∙◌, ap, subst, false, true, ◌≡◌}
+use Rattle.std.proofs.Common.{sym, ◌∙◌, ap}
 use Rattle.language_tags_grammar.specs.Case.{in_case}
 use Rattle.language_tags_grammar.proofs.ScannedText.{scanned-region, scanned-script, scanned-within}
 use Rattle.language_tags_grammar.proofs.TextLaws.{no_print, fault_of_scan, print_of_scan}
