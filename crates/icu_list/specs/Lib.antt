@@ -1,0 +1,14 @@
+pub mod Words
+pub mod Pattern
+pub mod PatternTexts
+pub mod Deciding
+pub mod Conditions
+pub mod ConditionFaults
+pub mod Patterns
+pub mod Joined
+pub mod ListHint
+pub mod PatternsView
+pub mod ListFault
+pub mod Frames
+pub mod Choices
+pub mod JoinedLaws

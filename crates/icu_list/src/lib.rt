@@ -1,0 +1,13 @@
+//! Lists.
+#![tactic(auto)]
+
+mod error;
+mod formatted;
+mod formatter;
+pub mod options;
+pub mod parts;
+pub mod provider;
+
+pub use error::DataError;
+pub use formatted::FormattedList;
+pub use formatter::ListFormatter;
