@@ -1,6 +1,7 @@
 -- The nested substitution, from left to right.
 use Rattle.std.specs.Prelude.{◌==◌}
 use Rattle.std.proofs.Common.{◌≡◌, ℕ, ◌+◌, Bool, true, false, List, [], ◌∷◌, ◌++◌, length, map, refl, sym, ap, subst, ◌∙◌, arith, append_assoc}
+use Rattle.std.proofs.lemmas.Bool.{eqb-true}
 use Rattle.icu_list.specs.Pattern.{Pattern}
 use Rattle.icu_list.specs.Patterns.{Closing, Patterns, end_for, two_for}
 use Rattle.icu_list.specs.Joined.{two, start, middle, end, rest, nested, last_of}
@@ -39,7 +40,7 @@ module _ {A : Type 0} (literal : List ℕ → List A) (p : Patterns) (last : Lis
   pub nested_whole : (xs : List (List A)) (b : Bool) → b ≡ (length xs == 0) → nested literal p last (a ∷ (xs ++ z ∷ [])) ≡ whole literal (frame_for p b last) a xs z
   nested_whole [] true e = two_whole (two_for p last)
   nested_whole [] false e = absurd cc
-  nested_whole (x ∷ xs) true e = absurd cc
+  nested_whole (x ∷ xs) true e = let none = eqb-true (length (x ∷ xs)) 0 (sym e) in absurd (omega (arith, none))
   nested_whole (x ∷ []) false e = started literal p (end_for p last) z a x [] (z ∷ []) (rest_left literal p (end_for p last) z x [])
   nested_whole (x ∷ y ∷ xs) false e = started literal p (end_for p last) z a x (y ∷ xs) (y ∷ (xs ++ z ∷ [])) (rest_left literal p (end_for p last) z x (y ∷ xs))
 

@@ -10,10 +10,12 @@ use lib.Utf8.{encodes, scalars}
 
 -- the placeholders are text
 pub first_text : IsUtf8 (codes "{0}")
-first_text = (codes "{0}", refl, refl)
+unfolding lib.Utf8.encode
+first_text = (codes "{0}", (refl, refl))
 
 pub second_text : IsUtf8 (codes "{1}")
-second_text = (codes "{1}", refl, refl)
+unfolding lib.Utf8.encode
+second_text = (codes "{1}", (refl, refl))
 
 pub stripped_front : (text rest : List ℕ) → StripsPrefix (FindsTextPrefix (codes "{0}")) text rest → text ≡ codes "{0}" ++ rest
 stripped_front text rest h = h.1.1 ∙ ap (λ x. codes "{0}" ++ x) (sym h.2)
@@ -31,6 +33,7 @@ middle_found text rest between e f utf8 =
 
 -- a middle pattern in bytes
 shaped : (text : List ℕ) → IsUtf8 text → (m : List ℕ) → chars text ≡ first_item ++ (m ++ second_item) → text ≡ codes "{0}" ++ (encodes m ++ codes "{1}")
+unfolding lib.Utf8.encode
 shaped text utf8 m e =
     sym (encodes-chars text utf8) ∙ ap encodes e ∙ encodes-append first_item (m ++ second_item) ∙ ap (λ x. codes "{0}" ++ x) (encodes-append m second_item)
 
