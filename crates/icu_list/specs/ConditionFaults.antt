@@ -1,5 +1,5 @@
 -- Why a pattern is no condition, as an error of lists.
-use Rattle.std.specs.Prelude.{◌≡◌, ◌≢◌, ℕ, List}
+use Rattle.std.specs.Prelude.{◌≡◌, ◌≢◌, ℕ, List, Option, None, IsSomeAnd, chars}
 use Rattle.lazy_dfa.specs.Refusals.{IsRefused}
 use Rattle.lazy_dfa.specs.declared.error.ConditionError.{ConditionError}
 use Rattle.lazy_dfa.specs.declared.error.ConditionError.TheVariants as condition
@@ -21,3 +21,12 @@ IsConditionFault pattern InvalidPattern = ⊥
 IsConditionFault pattern CannotStore = ⊥
 IsConditionFault pattern MissingLocale = ⊥
 IsConditionFault pattern NotJsonForm = ⊥
+
+-- why a JSON value is no condition: it is no text, or its text is none
+abbrev pub IsJsonConditionFault : Option (List ℕ) → DataError → Type 0
+IsJsonConditionFault text NotJsonForm = text ≡ None
+IsJsonConditionFault text (Condition error) = IsSomeAnd text (λ bytes. IsConditionFault (chars bytes) (Condition error))
+IsJsonConditionFault text NoMemory = Unit {0}
+IsJsonConditionFault text InvalidPattern = ⊥
+IsJsonConditionFault text CannotStore = ⊥
+IsJsonConditionFault text MissingLocale = ⊥

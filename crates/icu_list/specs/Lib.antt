@@ -8,6 +8,9 @@ pub mod Patterns
 pub mod Joined
 pub mod ListHint
 pub mod PatternsView
+pub mod Specials
+pub mod Tables
+pub mod FirstRow
 pub mod ListFault
 pub mod Frames
 pub mod Choices

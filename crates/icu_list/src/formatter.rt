@@ -1,11 +1,16 @@
 //! Formatters: the patterns that lists are written by.
 
-ghost use Rattle.std.specs.Prelude.{◌≡◌, IfOk, map};
+ghost use Rattle.std.specs.Prelude.{◌≡◌, IfErr, IfOk, find, map};
 ghost use Rattle.std.specs.Str.{chars};
+ghost use Rattle.std.specs.Option.{option_map};
+ghost use Rattle.icu_list.specs.FirstRow.{IsMissing, IsOfFirstRow, row_of};
 ghost use Rattle.icu_list.specs.Joined.{joined};
+ghost use Rattle.icu_list.specs.Tables.{is_row_of};
 
-use crate::FormattedList;
+use crate::options::{ListFormatterOptions, ListLength};
 use crate::provider::ListFormatterPatterns;
+use crate::{DataError, FormattedList, ListKind, ListTableRow, ListTables};
+use icu_locale_core::DataLocale;
 use std::alloc::{AllocError, Global};
 use writeable_core::{OwnedText, StringSink, Writeable};
 
@@ -22,6 +27,80 @@ impl<'a> ListFormatter<'a> {
     {
         ListFormatter { patterns }
     }
+
+    /// The formatter of lists of all their items, in a locale: by the first row of the table that
+    /// is of this kind, locale and length.
+    pub fn try_new_and(
+        tables: &'a ListTables,
+        locale: DataLocale,
+        options: ListFormatterOptions,
+    ) -> Result<ListFormatter<'a>, DataError>
+        ensures ok { IfOk result
+            (IsOfFirstRow (row_of ListKind.And locale options.length tables.now.rows.items)) }
+        ensures err { IfErr result
+            (IsMissing (row_of ListKind.And locale options.length tables.now.rows.items)) }
+    {
+        ListFormatter::of_row(tables, ListKind::And, locale, options)
+    }
+
+    /// The formatter of lists of which one item counts.
+    pub fn try_new_or(
+        tables: &'a ListTables,
+        locale: DataLocale,
+        options: ListFormatterOptions,
+    ) -> Result<ListFormatter<'a>, DataError>
+        ensures ok { IfOk result
+            (IsOfFirstRow (row_of ListKind.Or locale options.length tables.now.rows.items)) }
+        ensures err { IfErr result
+            (IsMissing (row_of ListKind.Or locale options.length tables.now.rows.items)) }
+    {
+        ListFormatter::of_row(tables, ListKind::Or, locale, options)
+    }
+
+    /// The formatter of lists of the parts of one measure.
+    pub fn try_new_unit(
+        tables: &'a ListTables,
+        locale: DataLocale,
+        options: ListFormatterOptions,
+    ) -> Result<ListFormatter<'a>, DataError>
+        ensures ok { IfOk result
+            (IsOfFirstRow (row_of ListKind.Unit locale options.length tables.now.rows.items)) }
+        ensures err { IfErr result
+            (IsMissing (row_of ListKind.Unit locale options.length tables.now.rows.items)) }
+    {
+        ListFormatter::of_row(tables, ListKind::Unit, locale, options)
+    }
+
+    /// The formatter by the first row of this kind, locale and length.
+    fn of_row(
+        tables: &'a ListTables,
+        kind: ListKind,
+        locale: DataLocale,
+        options: ListFormatterOptions,
+    ) -> Result<ListFormatter<'a>, DataError>
+        ensures ok { IfOk result
+            (IsOfFirstRow (row_of kind locale options.length tables.now.rows.items)) }
+        ensures err { IfErr result
+            (IsMissing (row_of kind locale options.length tables.now.rows.items)) }
+    {
+        let length = options.length.unwrap_or(ListLength::Wide);
+        match first_row(&tables.rows, kind, locale, length) {
+            Some(row) => Ok(ListFormatter::from_patterns(&row.patterns)),
+            None => Err(DataError::MissingLocale),
+        }
+    }
+}
+
+/// The first row of this kind, locale and length.
+fn first_row(
+    rows: &[ListTableRow],
+    kind: ListKind,
+    locale: DataLocale,
+    length: ListLength,
+) -> Option<&ListTableRow>
+    ensures { option_map (λ row. row.now) result ≡ find (is_row_of kind locale length) rows.now }
+{
+    rows.iter().find(|row| row.is_of(kind, locale, length))
 }
 
 impl ListFormatter<'_> {

@@ -7,7 +7,7 @@ ghost use Rattle.icu_list.specs.Pattern.{IsPlace, pattern, pattern_at, texts};
 ghost use Rattle.icu_list.specs.PatternTexts.{IsFaultOf, IsFaultStoring, cut, is_empty, joiner, most_bytes, pattern_of};
 
 use crate::DataError;
-use std::alloc::Global;
+use std::alloc::{AllocError, Global};
 use std::marker::Model;
 use writeable_core::{LengthHint, OwnedText};
 
@@ -54,6 +54,34 @@ impl ListJoinerPattern {
             return Err(DataError::InvalidPattern);
         }
         ListJoinerPattern::stored(alloc, prefix, between, suffix)
+    }
+
+    /// The pattern of a text without prefix, in which the second item stands behind so many bytes.
+    pub fn from_parts(string: OwnedText, index_1: u8) -> Result<Self, DataError>
+        ensures ok { IfOk result (λ p. p ≡ pattern_at string 0 index_1) }
+        ensures place { IfOk result (λ _. IsPlace string index_1) }
+        ensures err { IfErr result
+            (λ e. (e ≡ DataError.InvalidPattern) × (IsPlace string index_1 → ⊥)) }
+    {
+        if !string.as_str().is_char_boundary(index_1 as usize) {
+            return Err(DataError::InvalidPattern);
+        }
+        Ok(ListJoinerPattern {
+            string,
+            index_0: 0,
+            index_1,
+        })
+    }
+
+    /// A copy of the pattern.
+    pub(crate) fn copied(&self, alloc: Global) -> Result<ListJoinerPattern, AllocError>
+        ensures { IfOk result (λ copy. copy ≡ self.now) }
+    {
+        Ok(ListJoinerPattern {
+            string: OwnedText::new(alloc, self.string.as_str())?,
+            index_0: self.index_0,
+            index_1: self.index_1,
+        })
     }
 
     /// The pattern of these texts.
@@ -111,7 +139,7 @@ impl ListJoinerPattern {
 }
 
 /// Whether a text may stand before or behind the items.
-fn is_allowed(allowed: bool, text: &str) -> bool
+pub(crate) fn is_allowed(allowed: bool, text: &str) -> bool
     ensures { result ≡ (allowed || is_empty (chars text.now)) }
 {
     allowed || text.is_empty()

@@ -1,6 +1,6 @@
 //! The patterns of a locale's lists.
 
-ghost use Rattle.std.specs.Prelude.{◌≡◌, [], Err, Ok, Some, None, IfErr, IfOk};
+ghost use Rattle.std.specs.Prelude.{◌≡◌, ◌≢◌, [], Err, Ok, Some, None, IfErr, IfOk};
 ghost use Rattle.std.specs.Str.{chars};
 ghost use Rattle.icu_list.specs.ListFault.{ArePatternsOf, IsFault, list_fault, without_specials};
 ghost use Rattle.icu_list.specs.Frames.{frame_for, frame_of};
@@ -8,7 +8,8 @@ ghost use Rattle.icu_list.specs.ListHint.{patterns_hint};
 ghost use Rattle.icu_list.specs.PatternTexts.{IsFaultOf, middle};
 
 use crate::DataError;
-use crate::provider::{ConditionalListJoinerPattern, Joints, ListJoinerPattern};
+use crate::provider::joiner::is_allowed;
+use crate::provider::{ConditionalListJoinerPattern, Joints, ListJoinerPattern, SpecialCasePattern};
 use std::alloc::Global;
 use std::marker::Model;
 use writeable_core::{LengthHint, OwnedText, Writeable};
@@ -38,6 +39,17 @@ impl Model for ListFormatterPatterns {
 }
 
 impl ListFormatterPatterns {
+    ghost use Rattle.icu_list.specs.Specials.{with_end, with_pair};
+    ghost use Rattle.icu_list.specs.PatternsView.{special_closing_of, special_pattern_of};
+
+    /// The lengths' names in tables.
+    pub const NARROW: &'static str = "N";
+    pub const SHORT: &'static str = "S";
+    pub const WIDE: &'static str = "W";
+    pub const NARROW_STR: &'static str = "N";
+    pub const SHORT_STR: &'static str = "S";
+    pub const WIDE_STR: &'static str = "W";
+
     /// The patterns that four texts are.
     pub fn try_new(
         alloc: Global,
@@ -63,6 +75,75 @@ impl ListFormatterPatterns {
             start,
             middle,
             end: ConditionalListJoinerPattern::from(last),
+            pair,
+        })
+    }
+
+    /// The patterns with a special end: its pattern replaces the end's before a last item on which its
+    /// condition holds.
+    pub fn with_end_special(self, special: SpecialCasePattern) -> Result<Self, DataError>
+        ensures ok { IfOk result (λ p. p ≡ with_end self (special_closing_of special)) }
+        ensures allowed { IfOk result (λ _. special.pattern.prefix ≡ []) }
+        ensures err { IfErr result
+            (λ e. (e ≡ DataError.InvalidPattern) × (special.pattern.prefix ≢ [])) }
+    {
+        if !is_allowed(false, special.pattern.prefix()) {
+            return Err(DataError::InvalidPattern);
+        }
+        let ListFormatterPatterns {
+            start,
+            middle,
+            end,
+            pair,
+        } = self;
+        let ConditionalListJoinerPattern {
+            default,
+            special_case: _,
+        } = end;
+        Ok(ListFormatterPatterns {
+            start,
+            middle,
+            end: ConditionalListJoinerPattern {
+                default,
+                special_case: Some(special),
+            },
+            pair,
+        })
+    }
+
+    /// The patterns with a special pair. Where no pair is stored, one is that is equal to the end.
+    pub fn with_pair_special(
+        self,
+        alloc: Global,
+        special: SpecialCasePattern,
+    ) -> Result<Self, DataError>
+        ensures ok { IfOk result (λ p. p ≡ with_pair self (special_pattern_of special)) }
+        ensures err { IfErr result (λ e. e ≡ DataError.NoMemory) }
+    {
+        let ListFormatterPatterns {
+            start,
+            middle,
+            end,
+            pair,
+        } = self;
+        let default = match pair {
+            Some(pair) => {
+                let ConditionalListJoinerPattern {
+                    default,
+                    special_case: _,
+                } = pair;
+                default
+            }
+            None => end.default.copied(alloc)?,
+        };
+        let pair = Some(ConditionalListJoinerPattern {
+            default,
+            special_case: Some(special),
+        });
+        Ok(ListFormatterPatterns {
+            start,
+            middle,
+            end,
             pair,
         })
     }
