@@ -59,3 +59,9 @@ pub applies_is : (pattern : List ℕ) (e : Expression) (text : List ℕ) → con
 unfolding applies
 applies_is pattern e text c =
     subst (λ (r : Result Expression ConditionError). (applies_by r text ≡ true) ↔ holds e text) (sym (condition_is pattern e c)) (both_ways (tested_holds e text))
+
+-- the law: a pattern is the condition of one expression at most
+pub one_expression : (pattern : List ℕ) (e f : Expression) → condition pattern e → condition pattern f → e ≡ f
+one_expression pattern e f c d = let same = sym (condition_is pattern e c) ∙ condition_is pattern f d in ok_is e f same where
+  ok_is : (x y : Expression) → ◌≡◌ {A = Result Expression ConditionError} (Ok x) (Ok y) → x ≡ y
+  ok_is x y h = cc

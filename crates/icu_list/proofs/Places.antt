@@ -66,3 +66,6 @@ texts_are text bytes i j utf8 e le first second =
     ∙ ap (λ x. chars (take i bytes) ++ x) (sym (chars-append (take (j - i) (drop i bytes)) (drop j bytes) two) ∙ ap chars inner)
     ∙ sym (chars-append (take i bytes) (drop i bytes) one)
     ∙ ap chars (take-append-drop i bytes)
+
+pub place_from : (text bytes : List ℕ) (n : ℕ) → IsUtf8 bytes → chars bytes ≡ text → IsCharBoundary bytes n → IsPlace text n
+place_from text bytes n utf8 e h = subst (λ (b : List ℕ). IsCharBoundary b n) (sym (bytes_of text bytes utf8 e)) h

@@ -8,6 +8,8 @@ pub mod Patterns
 pub mod Joined
 pub mod ListHint
 pub mod PatternsView
+pub mod SamePatterns
+pub mod LawsOfLists
 pub mod Specials
 pub mod Tables
 pub mod FirstRow

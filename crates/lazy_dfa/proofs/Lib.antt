@@ -13,3 +13,4 @@ pub mod Compiling
 pub mod Advancing
 pub mod Pushing
 pub mod Matching
+pub mod States

@@ -11,6 +11,7 @@ pub record CharacterSet : Type 0 where
 abbrev pub in_range : ℕ → ℕ × ℕ → Bool
 in_range c range = nat_le range.0 c && nat_le c range.1
 
+-- the other answer, where it is negated
 abbrev pub negated_if : Bool → Bool → Bool
 negated_if true inside = not inside
 negated_if false inside = inside
@@ -53,5 +54,6 @@ size (Star a) = size a
 size (Plus a) = size a
 size (Optional a) = size a
 
+-- a class, by its items
 abbrev pub set_of : Bool → List (ℕ × ℕ) → CharacterSet
 set_of negated ranges = record { negated = negated; ranges = ranges }

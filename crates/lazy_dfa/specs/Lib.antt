@@ -8,7 +8,9 @@ pub mod Compiled
 pub mod Building
 pub mod Machine
 pub mod Steps
+pub mod Progress
 pub mod Stepping
+pub mod States
 pub mod SteppingLaws
 pub mod Words
 pub mod Refusals

@@ -1,4 +1,5 @@
--- What a contract sees of a condition: the position automaton, without what stands beside it for speed.
+-- How the crate works: what a contract sees of a condition, and which expressions it is for. It is
+-- the position automaton, without the state table beside it.
 use Rattle.std.specs.Prelude.{◌≡◌, ℕ, List, slice_index}
 use Rattle.lazy_dfa.specs.declared.automaton.Automaton.{Automaton}
 use Rattle.lazy_dfa.specs.declared.automaton.Range.{Range}
@@ -8,6 +9,8 @@ use Rattle.lazy_dfa.specs.Expression.{Expression, size}
 use Rattle.lazy_dfa.specs.Positions.{follow, reads}
 use Rattle.lazy_dfa.specs.Sets.{has}
 
+-- the ranges of all atoms, the negated atoms, by atom those that can read the next character, how
+-- many atoms there are, and how the whole begins and ends
 pub record Machine : Type 0 where
   pub ranges : List Range
   pub negated : ℕ
@@ -15,8 +18,16 @@ pub record Machine : Type 0 where
   pub size : ℕ
   pub whole : Part
 
+-- what a contract sees of an automaton and its whole part
 abbrev pub machine_of : Automaton → Part → Machine
-machine_of a part = record { ranges = a.ranges.items; negated = a.negated; follow = a.follow; size = a.size; whole = part }
+machine_of a part =
+    record {
+      ranges = a.ranges.items;
+      negated = a.negated;
+      follow = a.follow;
+      size = a.size;
+      whole = part;
+    }
 
 -- the automaton is that of the expression
 pub record IsFor (machine : Machine) (e : Expression) : Type 0 where

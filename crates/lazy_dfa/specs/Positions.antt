@@ -1,7 +1,9 @@
--- The position automaton of a condition: which atoms can read first, which can read last, and which can read behind
--- which. The places of an expression's atoms are n, n + 1 and so on, from left to right.
+-- How the crate works: the position automaton of a condition, that is which atoms can read first,
+-- which can read last, and which can read behind which. The places of an expression's atoms are n,
+-- n + 1 and so on, from left to right.
 use Rattle.std.specs.Prelude.{ℕ, ◌+◌, Bool, true, false, ◌&&◌, ◌||◌, ◌==◌}
-use Rattle.lazy_dfa.specs.Expression.{contains, Expression, Nothing, OneOf, End, Sequence, Choice, Star, Plus, Optional, size}
+use Rattle.lazy_dfa.specs.Expression.{contains, Expression, Nothing, OneOf, End, Sequence, Choice}
+use Rattle.lazy_dfa.specs.Expression.{Star, Plus, Optional, size}
 
 -- whether it reads no character; `end` says whether a `$` does
 abbrev pub empty : Bool → Expression → Bool
@@ -41,7 +43,8 @@ abbrev pub follow : Expression → ℕ → ℕ → ℕ → Bool
 follow Nothing n p q = false
 follow (OneOf set) n p q = false
 follow End n p q = false
-follow (Sequence a b) n p q = (follow a n p q || follow b (n + size a) p q) || (last false a n p && first b (n + size a) q)
+follow (Sequence a b) n p q =
+    (follow a n p q || follow b (n + size a) p q) || (last false a n p && first b (n + size a) q)
 follow (Choice a b) n p q = follow a n p q || follow b (n + size a) p q
 follow (Star a) n p q = follow a n p q || (last false a n p && first a n q)
 follow (Plus a) n p q = follow a n p q || (last false a n p && first a n q)

@@ -1,4 +1,4 @@
--- Sets of the places 0 to 63, as the bits of a number.
+-- How the crate works: sets of the places 0 to 63, as the bits of a number.
 use Rattle.std.specs.Prelude.{◌≡◌, ℕ, zero, suc, ◌==◌, Bool, true, false, ◌||◌}
 use Rattle.std.specs.Int.{bit_at}
 

@@ -1,32 +1,17 @@
--- A text that a condition reads a piece at a time.
-use Rattle.std.specs.Prelude.{◌≡◌, ◌↔◌, ℕ, ◌≤◌, ◌<◌, true, List, [], ◌++◌, length, Option, Some, None, Result, Ok, Err, ◌⊎◌}
+-- Reading a text a piece at a time: when a condition is decided, what a stepper has read, and what
+-- a push takes.
+use Rattle.std.specs.Prelude.{◌≡◌, ◌≤◌, ◌<◌, ℕ, List, ◌++◌, length, Result, Ok, Err, ◌⊎◌}
 use Rattle.lazy_dfa.specs.Expression.{Expression}
-use Rattle.lazy_dfa.specs.Meaning.{early, after, front}
-use Rattle.lazy_dfa.specs.Machine.{Machine, IsFor}
-use Rattle.lazy_dfa.specs.Sets.{has}
-
--- what a contract sees of a stepper: the condition, the positions that the text so far reaches (none before its first
--- character), and how many pushes were refused
-pub record Progress : Type 0 where
-  pub machine : Machine
-  pub reached : Option ℕ
-  pub refusals : ℕ
-
--- a stepper as it is made
-abbrev pub begun : Machine → Progress
-begun m = record { machine = m; reached = None; refusals = 0 }
+use Rattle.lazy_dfa.specs.Meaning.{early, front}
+use Rattle.lazy_dfa.specs.Machine.{IsFor}
+use Rattle.lazy_dfa.specs.Progress.{Progress, IsReached}
 
 -- the condition is decided by the text: it holds whatever follows, or fails whatever follows
 abbrev pub Decided : Expression → List ℕ → Type 0
 Decided c u = early c u ⊎ (front c u → ⊥)
 
--- the positions are those that the text reaches
-abbrev pub IsReached : Expression → List ℕ → Option ℕ → Type 0
-IsReached c u None = u ≡ []
-IsReached c u (Some set) = (0 < length u) × ((p : ℕ) → (has set p ≡ true) ↔ after c u p)
-
--- The stepper read the text. It passed no place at which the condition holds whatever follows, and refused a push
--- only where the condition was decided.
+-- The stepper read the text. It passed no place at which the condition holds whatever follows, and
+-- refused a push only where the condition was decided.
 pub record HasRead (c : Expression) (u : List ℕ) (s : Progress) : Type 0 where
   pub reached : IsReached c u s.reached
   pub unsettled : (v w : List ℕ) → u ≡ v ++ w → 0 < length w → early c v → ⊥
@@ -35,7 +20,8 @@ pub record HasRead (c : Expression) (u : List ℕ) (s : Progress) : Type 0 where
 -- the stepper took the text: whatever it had read before, it has read that and the text
 pub record Took (before : Progress) (text : List ℕ) (now : Progress) : Type 0 where
   pub machine : now.machine ≡ before.machine
-  pub read : (c : Expression) (u : List ℕ) → IsFor before.machine c → HasRead c u before → HasRead c (u ++ text) now
+  pub read : (c : Expression) (u : List ℕ) → IsFor before.machine c → HasRead c u before
+      → HasRead c (u ++ text) now
   pub later : before.refusals ≤ now.refusals
 
 -- no prefix of the piece decides
@@ -43,7 +29,8 @@ abbrev pub NoneDecides : Expression → List ℕ → List ℕ → Type 0
 NoneDecides c u piece = (q r : List ℕ) → q ++ r ≡ piece → Decided c (u ++ q) → ⊥
 
 -- the shortest prefix of the piece that decides was taken
-pub record TookShortest (c : Expression) (u : List ℕ) (piece : List ℕ) (before now : Progress) : Type 0 where
+pub record TookShortest (c : Expression) (u : List ℕ) (piece : List ℕ) (before now : Progress) :
+    Type 0 where
   pub prefix : List ℕ
   pub rest : List ℕ
   pub parts : prefix ++ rest ≡ piece
@@ -51,7 +38,9 @@ pub record TookShortest (c : Expression) (u : List ℕ) (piece : List ℕ) (befo
   pub decides : Decided c (u ++ prefix)
   pub shortest : (q r : List ℕ) → q ++ r ≡ prefix → 0 < length r → Decided c (u ++ q) → ⊥
 
--- A piece is taken whole where no prefix of it decides; else the push is refused, and took the shortest that does.
-abbrev pub Decides : {E : Type 0} → Expression → List ℕ → List ℕ → Progress → Result (Unit {0}) E → Progress → Type 0
+-- A piece is taken whole where no prefix of it decides; else the push is refused, and took the
+-- shortest that does.
+abbrev pub Decides : {E : Type 0} → Expression → List ℕ → List ℕ → Progress → Result (Unit {0}) E
+    → Progress → Type 0
 Decides c u piece before (Ok x) now = NoneDecides c u piece
 Decides c u piece before (Err e) now = TookShortest c u piece before now

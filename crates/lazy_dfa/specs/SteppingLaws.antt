@@ -1,10 +1,13 @@
 -- Texts that a stepper took, one after another.
 use Rattle.std.specs.Prelude.{ℕ, List, [], ◌++◌, length}
-use Rattle.std.proofs.Common.{refl, sym, ap, subst, ◌∙◌, append-nil, append_assoc, arith, length-append}
+use Rattle.std.proofs.Common.{refl, sym, ap, subst, ◌∙◌, append-nil, append_assoc, arith}
+use Rattle.std.proofs.Common.{length-append}
 use Rattle.lazy_dfa.specs.Expression.{Expression}
 use Rattle.lazy_dfa.specs.Machine.{Machine, IsFor}
-use Rattle.lazy_dfa.specs.Stepping.{Progress, HasRead, Took, begun}
+use Rattle.lazy_dfa.specs.Stepping.{HasRead, Took}
+use Rattle.lazy_dfa.specs.Progress.{Progress, begun}
 
+-- a stepper took no characters
 pub Took-nothing : (s : Progress) → Took s [] s
 Took-nothing s = record {
   machine = refl;
@@ -12,6 +15,7 @@ Took-nothing s = record {
   later = omega arith;
 }
 
+-- a stepper took a text, and then another one
 pub Took-both : (a b c : Progress) (s t : List ℕ) → Took a s b → Took b t c → Took a (s ++ t) c
 Took-both a b c s t p q = record {
   machine = q.machine ∙ p.machine;
@@ -30,5 +34,6 @@ read_nothing c m = record {
 }
 
 -- what a stepper has read, from its beginning on
-pub read_from_begin : (c : Expression) (m : Machine) (u : List ℕ) (s : Progress) → IsFor m c → Took (begun m) u s → HasRead c u s
+pub read_from_begin : (c : Expression) (m : Machine) (u : List ℕ) (s : Progress) → IsFor m c
+    → Took (begun m) u s → HasRead c u s
 read_from_begin c m u s f took = took.read c [] f (read_nothing c m)

@@ -39,7 +39,8 @@ impl Automaton {
     pub fn behind(&self, positions: Positions) -> Positions
         ensures { (q : ℕ) →
             has result q
-            ≡ any_below self.now.size (λ p. has positions p && has (slice_index self.now.follow p) q) }
+            ≡ any_below self.now.size
+            (λ p. has positions p && has (slice_index self.now.follow p) q) }
     {
         let mut next = 0;
         for place in 0..self.size {

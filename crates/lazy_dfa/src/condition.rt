@@ -1,18 +1,15 @@
 //! Conditions: reading a pattern, and what holds of a text.
 
-ghost use Rattle.std.specs.Prelude.{◌≡◌, ◌↔◌, ◌≤◌, ◌&&◌, ℕ, length, take};
-ghost use Rattle.std.specs.Prelude.{IfErr, IfOk, IsTrue, MatchBool};
+ghost use Rattle.std.specs.Prelude.{◌≡◌, ◌↔◌, ◌≤◌, false, length, take, IfErr, IfOk, IsTrue};
 ghost use Rattle.std.specs.Str.{chars};
-ghost use Rattle.lazy_dfa.specs.Sets.{has};
 
 use crate::automaton::{Automaton, MOST};
 use crate::characters::behind;
 use crate::error::ConditionError;
+use crate::matcher::Matcher;
 use crate::parser::Stop;
-use crate::part::Part;
-use crate::positions::{Positions, meet};
 use crate::stepper::Stepper;
-use std::alloc::Global;
+use std::alloc::{AllocError, Global};
 use std::marker::Model;
 use writeable_core::Writeable;
 
@@ -22,26 +19,26 @@ const ROOM: usize = 66;
 /// A condition on texts.
 #[derive(Drop)]
 pub struct Condition {
-    automaton: Automaton,
-    whole: Part,
+    matcher: Matcher,
 }
 
 impl Model for Condition {
-    ghost use Rattle.lazy_dfa.specs.Machine.{Machine, machine_of};
+    ghost use Rattle.lazy_dfa.specs.Machine.{Machine};
+    ghost use Rattle.lazy_dfa.specs.States.{HasTable, machine};
 
     ghost Value = { Machine };
 
-    ghost view = { λ c. machine_of c.automaton c.whole };
+    ghost view = { λ c. machine c.matcher };
+
+    ghost invariant = { λ c. HasTable (machine c.matcher) c.matcher.table };
 }
 
 impl Condition {
     ghost use Rattle.lazy_dfa.specs.Expression.{Expression};
     ghost use Rattle.lazy_dfa.specs.Machine.{IsFor};
     ghost use Rattle.lazy_dfa.specs.Meaning.{holds};
-    ghost use Rattle.lazy_dfa.specs.Compiled.{atom_reads};
-    ghost use Rattle.lazy_dfa.specs.Steps.{next_has, HoldsAt, IsDecidedAt};
-    ghost use Rattle.lazy_dfa.specs.Stepping.{begun};
-    ghost use Rattle.lazy_dfa.specs.Refusals.{IsRefused, IsUnread, condition};
+    ghost use Rattle.lazy_dfa.specs.Progress.{begun};
+    ghost use Rattle.lazy_dfa.specs.Refusals.{HasManyStates, IsRefused, IsUnread, condition};
     ghost use Rattle.lazy_dfa.specs.Syntax.{alt};
 
     /// The condition that a pattern is.
@@ -75,41 +72,23 @@ impl Condition {
     pub fn stepper(&self) -> Stepper<'_>
         ensures { result ≡ begun self.now }
     {
-        Stepper::new(self)
+        Stepper::new(&self.matcher)
     }
 
-    /// The positions that a text reaches with one character more. Before its first it has none.
-    pub(crate) fn step(&self, reached: Option<Positions>, c: char) -> Positions
-        ensures { (q : ℕ) →
-            has result q
-            ≡ (next_has self.now reached q && atom_reads self.now.ranges self.now.negated q c) }
+    /// Makes a table of the states that texts reach, by which a step is a look-up. False where they
+    /// are more than 256: then stepping goes on without one. No answer of the condition changes.
+    pub fn determinise(&mut self, alloc: Global) -> Result<bool, AllocError>
+        ensures kept { self.new ≡ self.old }
+        ensures many { IfOk result (λ used. used ≡ false →
+            (e : Expression) → IsFor self.old e → HasManyStates e) }
     {
-        let next = match reached {
-            None => self.whole.first,
-            Some(positions) => self.automaton.behind(positions),
-        };
-        self.automaton.reading(next, c)
-    }
-
-    /// Whether it is decided by a text that reaches these positions.
-    pub(crate) fn is_decided(&self, reached: Option<Positions>) -> bool
-        ensures { MatchBool result
-            (IsDecidedAt self.now reached) (IsDecidedAt self.now reached → ⊥) }
-    {
-        match reached {
-            None => self.whole.empty,
-            Some(positions) => positions == 0 || meet(positions, self.whole.last),
+        if self.matcher.table.is_some() {
+            return Ok(true);
         }
-    }
-
-    /// Whether it holds on a text that reaches these positions.
-    pub(crate) fn holds_at(&self, reached: Option<Positions>) -> bool
-        ensures { IsTrue result ↔ HoldsAt self.now reached }
-    {
-        match reached {
-            None => self.whole.empty_at_end,
-            Some(positions) => meet(positions, self.whole.last_at_end),
-        }
+        let table = self.matcher.tabled(alloc)?;
+        let used = table.is_some();
+        self.matcher.table = table;
+        Ok(used)
     }
 
     /// The condition that stands behind `^`.
@@ -128,7 +107,12 @@ impl Condition {
             return Err(ConditionError::Syntax(text.len() - parsed.rest.len()));
         }
         let whole = parsed.part;
-        Ok(Condition { automaton, whole })
+        let matcher = Matcher {
+            automaton,
+            whole,
+            table: None,
+        };
+        Ok(Condition { matcher })
     }
 }
 

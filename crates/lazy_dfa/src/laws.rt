@@ -5,7 +5,8 @@ ghost use Rattle.std.specs.Prelude.{◌≡◌, ◌++◌, ◌⊎◌, [], ℕ, Lis
 ghost use Rattle.lazy_dfa.specs.Expression.{Expression};
 ghost use Rattle.lazy_dfa.specs.Machine.{IsFor, Machine};
 ghost use Rattle.lazy_dfa.specs.Meaning.{early, front, holds};
-ghost use Rattle.lazy_dfa.specs.Stepping.{HasRead, Progress, Took, begun};
+ghost use Rattle.lazy_dfa.specs.Stepping.{HasRead, Took};
+ghost use Rattle.lazy_dfa.specs.Progress.{Progress, begun};
 
 /// Where a prefix matches without a `$`, the condition holds on every text that goes on; where none
 /// does and the text is no front, it holds on none.

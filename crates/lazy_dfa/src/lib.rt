@@ -8,13 +8,15 @@
 //! ```
 //!
 //! A condition holds on a text where some prefix of the text matches. [`Condition::new`] reads a
-//! pattern, or tells by [`ConditionError`] where it breaks off; [`Condition::matches`] writes a value
-//! into a [`Stepper`], a sink that stops the writer once the answer is fixed.
+//! pattern, or tells by [`ConditionError`] where it breaks off; [`Condition::matches`] writes a
+//! value into a [`Stepper`], a sink that stops the writer once the answer is fixed.
+//! [`Condition::determinise`] makes stepping a look-up in a table, and changes no answer.
 //!
 //! - `condition`, `error`: the condition that a pattern is, and why a pattern is none.
 //! - `stepper`: the sink that steps through a text.
 //! - `laws`: laws of the definitions, for contracts above.
 //! - `parser`, `characters`: reading a pattern.
+//! - `matcher`, `table`: stepping by sets of positions, or by a table of states.
 //! - `automaton`, `part`, `positions`: which of a pattern's atoms can read first, last, and behind
 //!   which.
 #![tactic(auto)]
@@ -24,10 +26,12 @@ mod characters;
 mod condition;
 mod error;
 mod laws;
+mod matcher;
 mod parser;
 mod part;
 mod positions;
 mod stepper;
+mod table;
 
 pub use condition::Condition;
 pub use error::ConditionError;

@@ -7,12 +7,12 @@ ghost use Rattle.std.proofs.Common.{rules};
 ghost use Rattle.lazy_dfa.specs.Expression.{Expression};
 ghost use Rattle.lazy_dfa.specs.Machine.{IsFor};
 ghost use Rattle.lazy_dfa.specs.Meaning.{early, holds};
-ghost use Rattle.lazy_dfa.specs.Stepping.{Decided, Decides, HasRead, Took, begun};
+ghost use Rattle.lazy_dfa.specs.Stepping.{Decided, Decides, HasRead, Took};
+ghost use Rattle.lazy_dfa.specs.Progress.{begun};
 ghost use Rattle.lazy_dfa.specs.SteppingLaws.{Took-nothing, Took-both};
 ghost use Rattle.writeable_core.specs.Sink.{TookPrefix, HasCause, Rose};
 
-use crate::condition::Condition;
-use crate::positions::Positions;
+use crate::matcher::{Matcher, Place};
 use std::marker::Model;
 use writeable_core::{Sink, SinkError};
 
@@ -20,28 +20,40 @@ use writeable_core::{Sink, SinkError};
 /// is decided, and takes nothing from then on.
 #[derive(Drop)]
 pub struct Stepper<'a> {
-    condition: &'a Condition,
-    /// The positions that the text so far reaches, where there is a character.
-    reached: Option<Positions>,
+    matcher: &'a Matcher,
+    /// What the text so far reaches.
+    place: Place,
     refusals: u64,
 }
 
 impl<'a> Model for Stepper<'a> {
-    ghost use Rattle.lazy_dfa.specs.Stepping.{Progress};
+    ghost use Rattle.lazy_dfa.specs.Progress.{Progress};
+    ghost use Rattle.lazy_dfa.specs.States.{HasTable, IsAt, machine};
 
     ghost Value = { Progress };
 
     ghost view = { λ s.
-        record { machine = s.condition.now; reached = s.reached; refusals = s.refusals } };
+        record {
+          machine = machine s.matcher.now;
+          reached = s.place.reached;
+          refusals = s.refusals;
+        } };
+
+    ghost invariant = { λ s.
+        HasTable (machine s.matcher.now) s.matcher.now.table
+        × IsAt s.matcher.now.table s.place };
 }
 
 impl Stepper<'_> {
-    pub(crate) fn new(condition: &Condition) -> Stepper<'_>
-        ensures { result ≡ begun condition.now }
+    ghost use Rattle.lazy_dfa.specs.States.{HasTable, machine};
+
+    pub(crate) fn new(matcher: &Matcher) -> Stepper<'_>
+        requires { HasTable (machine matcher.now) matcher.now.table }
+        ensures { result ≡ begun (machine matcher.now) }
     {
         Stepper {
-            condition,
-            reached: None,
+            matcher,
+            place: Place::START,
             refusals: 0,
         }
     }
@@ -54,14 +66,14 @@ impl Stepper<'_> {
             IsFor self.now.machine c → HasRead c u self.now → Decided c u →
             IsTrue result ↔ early c u }
     {
-        self.condition.holds_at(self.reached)
+        self.matcher.holds_at(self.place.reached)
     }
 
     fn is_decided(&self) -> bool
         ensures { (c : Expression) (u : List ℕ) →
             IsFor self.now.machine c → HasRead c u self.now → IsTrue result ↔ Decided c u }
     {
-        self.condition.is_decided(self.reached)
+        self.matcher.is_decided(self.place.reached)
     }
 }
 
@@ -92,7 +104,7 @@ impl Stepper<'_> {
             MatchResult result
             (λ _. Decided e (u ++ c ∷ []) → ⊥) (λ _. Decided e (u ++ c ∷ [])) }
     {
-        self.reached = Some(self.condition.step(self.reached, c));
+        self.place = self.matcher.advance(self.place, c);
         if self.is_decided() {
             return Err(self.refuse());
         }

@@ -7,14 +7,14 @@ use crate::provider::{ListJoinerPattern, SerdeDFA};
 use writeable_core::{LengthHint, Writeable};
 
 /// A pattern for the last items on which a condition holds.
-#[derive(Drop)]
+#[derive(Drop, PartialEq)]
 pub struct SpecialCasePattern {
     pub condition: SerdeDFA,
     pub pattern: ListJoinerPattern,
 }
 
 /// A pattern, and perhaps another that replaces it under a condition.
-#[derive(Drop)]
+#[derive(Drop, PartialEq)]
 pub struct ConditionalListJoinerPattern {
     pub default: ListJoinerPattern,
     pub special_case: Option<SpecialCasePattern>,

@@ -2,6 +2,7 @@
 
 ghost use Rattle.std.specs.Prelude.{◌≡◌, ◌+◌, ◌<◌, ◌≤◌, ◌++◌, ◌||◌, [], Ok, Some, None, MatchOption, IfOk, IfErr, length, codes};
 ghost use Rattle.std.specs.Str.{chars};
+ghost use Rattle.writeable_core.specs.Texts.{same_text};
 ghost use Rattle.writeable_core.specs.Hint.{byte_length, text_hint};
 ghost use Rattle.icu_list.specs.Pattern.{IsPlace, pattern, pattern_at, texts};
 ghost use Rattle.icu_list.specs.PatternTexts.{IsFaultOf, IsFaultStoring, cut, is_empty, joiner, most_bytes, pattern_of};
@@ -138,11 +139,36 @@ impl ListJoinerPattern {
     }
 }
 
+/// Patterns are equal where each of their three texts is.
+impl PartialEq for ListJoinerPattern {
+    ghost use Rattle.std.specs.Prelude.{◌≡◌};
+    ghost use Rattle.icu_list.specs.SamePatterns.{same_pattern, same_pattern_laws};
+
+    ghost eq = { same_pattern };
+
+    ghost laws = { same_pattern_laws };
+
+    fn eq(&self, other: &ListJoinerPattern) -> bool
+        ensures { result ≡ same_pattern self.now other.now }
+    {
+        is_same(self.prefix(), other.prefix())
+            && is_same(self.between(), other.between())
+            && is_same(self.suffix(), other.suffix())
+    }
+}
+
 /// Whether a text may stand before or behind the items.
 pub(crate) fn is_allowed(allowed: bool, text: &str) -> bool
     ensures { result ≡ (allowed || is_empty (chars text.now)) }
 {
     allowed || text.is_empty()
+}
+
+/// Whether two texts are one.
+pub(crate) fn is_same(one: &str, other: &str) -> bool
+    ensures { result ≡ same_text (chars one.now) (chars other.now) }
+{
+    one == other
 }
 
 /// What stands before `{0}`, from there to `{1}`, and behind that.

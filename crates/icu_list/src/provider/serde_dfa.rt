@@ -11,6 +11,7 @@ ghost use Rattle.icu_list.specs.ConditionFaults.{IsConditionFault, IsJsonConditi
 ghost use Rattle.lazy_dfa.specs.Refusals.{condition};
 
 use crate::DataError;
+use crate::provider::joiner::is_same;
 use lazy_dfa::{Condition, ConditionError};
 use serde_json::Value;
 use std::alloc::{AllocError, Global};
@@ -42,7 +43,8 @@ impl SerdeDFA {
         ensures condition { IfOk result (λ _. (e : Expression) × condition (chars pattern.now) e) }
         ensures err { IfErr result (IsConditionFault (chars pattern.now)) }
     {
-        let condition = Condition::new(alloc, pattern).map_err(lifted)?;
+        let mut condition = Condition::new(alloc, pattern).map_err(lifted)?;
+        let _ = condition.determinise(alloc)?;
         let pattern = OwnedText::new(alloc, pattern)?;
         Ok(SerdeDFA { pattern, condition })
     }
@@ -98,6 +100,6 @@ impl PartialEq for SerdeDFA {
     fn eq(&self, other: &SerdeDFA) -> bool
         ensures { result ≡ pointwise nat_eq self.now other.now }
     {
-        self.pattern.as_str() == other.pattern.as_str()
+        is_same(self.pattern.as_str(), other.pattern.as_str())
     }
 }

@@ -8,4 +8,5 @@ pub returns-clause-bits : goal.returns-clause-bits
 returns-clause-bits c = one_shl c.args.place 64 c.requires
 
 pub returns-clause-place : goal.returns-clause-place
-returns-clause-place c = λ p. ap (λ n. has n p) (one_shl c.args.place 64 c.requires) ∙ has-only c.args.place p
+returns-clause-place c = λ p. ap (λ n. has n p) (one_shl c.args.place 64 c.requires)
+    ∙ has-only c.args.place p

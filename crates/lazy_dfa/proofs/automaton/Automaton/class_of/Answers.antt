@@ -8,7 +8,8 @@ returns c =
     let items = rw c.in-Some.is at c.in_ok-rest.ensures in (
       items.0,
       items.1 (length c.args.items.now) (omega arith),
-      subst (λ n. Sums c.add_atom-part.result (OneOf (set_of c.args.negated items.0)) n) items.2.sized (c.add_atom-part.ensures.part (set_of c.args.negated items.0)),
+      subst (λ n. Sums c.add_atom-part.result (OneOf (set_of c.args.negated items.0)) n)
+          items.2.sized (c.add_atom-part.ensures.part (set_of c.args.negated items.0)),
       c.add_atom-part.ensures.added c.args.self.now items.0 c.requires.fresh items.2,
       items.3,
     )

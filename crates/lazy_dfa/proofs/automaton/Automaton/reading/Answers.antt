@@ -9,4 +9,5 @@ use Rattle.lazy_dfa.proofs.automaton.Automaton.reading.Goals as goal
 pub returns : goal.returns
 returns c = λ p.
     has-and c.args.next (bit_xor c.inside.result c.args.self.now.negated) p
-    ∙ ap (λ b. has c.args.next p && b) (has-xor c.inside.result c.args.self.now.negated p ∙ ap (negated_if (has c.args.self.now.negated p)) (c.inside.ensures p))
+    ∙ ap (λ b. has c.args.next p && b) (has-xor c.inside.result c.args.self.now.negated p
+    ∙ ap (negated_if (has c.args.self.now.negated p)) (c.inside.ensures p))

@@ -5,4 +5,5 @@ pub returns-clause-holds : goal.returns-clause-holds
 returns-clause-holds c = rw (← c.self.view_is) (holds_test _ c.holds_at.result c.holds_at.ensures)
 
 pub returns-clause-decided : goal.returns-clause-decided
-returns-clause-decided c = rw (← c.self.view_is) (decided_answer _ c.holds_at.result c.holds_at.ensures)
+returns-clause-decided c =
+    rw (← c.self.view_is) (decided_answer _ c.holds_at.result c.holds_at.ensures)

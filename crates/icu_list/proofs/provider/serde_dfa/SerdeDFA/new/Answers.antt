@@ -15,5 +15,6 @@ made pattern r m h e =
 
 pub invariant_of-result : goal.invariant_of-result
 invariant_of-result c =
-    subst (λ (p : List ℕ). IsForCondition (condition_of p) c.in_ok-condition.condition) (sym c.in_ok-pattern.ensures.ok)
-    (made (chars c.args.pattern.now) c.new.result c.in_ok-condition.condition c.new.ensures.ok (search rules))
+    subst (λ (m : Machine). IsForCondition (condition_of c.in_ok-pattern.pattern) m) (sym c.determinise.ensures.kept)
+    (subst (λ (p : List ℕ). IsForCondition (condition_of p) c.in_ok-condition.condition) (sym c.in_ok-pattern.ensures.ok)
+    (made (chars c.args.pattern.now) c.new.result c.in_ok-condition.condition c.new.ensures.ok (search rules)))
