@@ -1,0 +1,9 @@
+pub mod Cuts
+pub mod Places
+pub mod Reading
+pub mod ConditionLaws
+pub mod Framing
+pub mod Going
+pub mod MiddleText
+pub mod Making
+pub mod Turns

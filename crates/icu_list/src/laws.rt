@@ -1,0 +1,16 @@
+//! Laws of lists, for contracts that cite them. Each function does nothing: its contract is the
+//! law.
+
+ghost use Rattle.icu_list.specs.LawsOfLists.{CharactersAreJoined, ConditionsApply, OneExpression};
+
+/// A special pattern's condition applies exactly where it holds on the last item, and a pattern text
+/// is the condition of one expression at most.
+pub fn conditions_apply()
+    ensures applies { ConditionsApply }
+    ensures one { OneExpression }
+{}
+
+/// The text of a marked list is the list of the items' texts.
+pub fn characters_are_joined()
+    ensures { CharactersAreJoined }
+{}
