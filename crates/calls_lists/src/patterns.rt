@@ -9,9 +9,7 @@ use calls::answers;
 use calls::answers::Answer;
 use calls::arguments::{Wrong, field, flag, size, text};
 use icu_list::DataError;
-use icu_list::provider::{
-    ListFormatterPatterns, ListJoinerPattern, SerdeDFA, SpecialCasePattern,
-};
+use icu_list::provider::{ListFormatterPatterns, ListJoinerPattern, SerdeDFA, SpecialCasePattern};
 use serde_json::Value;
 use std::alloc::{AllocError, Global};
 use writeable::{OwnedText, Text};
@@ -92,10 +90,7 @@ fn made_or_refused(
     }
 }
 
-fn joiner(
-    alloc: Global,
-    read: Result<ListJoinerPattern, DataError>,
-) -> Result<Value, AllocError> {
+fn joiner(alloc: Global, read: Result<ListJoinerPattern, DataError>) -> Result<Value, AllocError> {
     match read {
         Ok(pattern) => pattern.to_json(alloc),
         Err(error) => refused(alloc, error),
@@ -122,19 +117,24 @@ pub fn patterns_of<'a>(
     let middle = text(field(given, "middle")?)?;
     let end = text(field(given, "end")?)?;
     let pair = text(field(given, "pair")?)?;
-    let patterns = ListFormatterPatterns::try_new(alloc, start, middle, end, pair)
-        .map_err(|error| unread(given, error))?;
+    let patterns = ListFormatterPatterns::try_new(alloc, start, middle, end, pair).map_err(
+        |error| unread(given, error),
+    )?;
     let patterns = match given.get("end_special") {
         Some(special) => {
             let special = special_of(alloc, special, false)?;
-            patterns.with_end_special(special).map_err(|error| unread(given, error))?
+            patterns
+                .with_end_special(special)
+                .map_err(|error| unread(given, error))?
         }
         None => patterns,
     };
     match given.get("pair_special") {
         Some(special) => {
             let special = special_of(alloc, special, true)?;
-            patterns.with_pair_special(alloc, special).map_err(|error| unread(given, error))
+            patterns
+                .with_pair_special(alloc, special)
+                .map_err(|error| unread(given, error))
         }
         None => Ok(patterns),
     }
@@ -148,7 +148,8 @@ fn special_of<'a>(
 ) -> Result<SpecialCasePattern, Wrong<'a>> {
     let condition = condition_of(alloc, field(given, "condition")?)?;
     let pattern = text(field(given, "pattern")?)?;
-    let pattern = ListJoinerPattern::try_from_str(alloc, pattern, prefix, true)
-        .map_err(|error| unread(given, error))?;
+    let pattern = ListJoinerPattern::try_from_str(alloc, pattern, prefix, true).map_err(
+        |error| unread(given, error),
+    )?;
     Ok(SpecialCasePattern { condition, pattern })
 }
