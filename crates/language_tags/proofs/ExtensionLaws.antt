@@ -11,8 +11,8 @@ use Rattle.language_tags_grammar.specs.declared.ends.Ends.{Ends}
 use Rattle.language_tags_grammar.specs.Pieces.{dashed, joined, part_text, pieces}
 use Rattle.language_tags_grammar.specs.Shapes.{IsExtension}
 use Rattle.language_tags_grammar.specs.Tag.{Extension, Tag, extension_pieces, extensions_of}
-use Rattle.language_tags_grammar.proofs.KeptLaws.{AreClean, between-middle, clean-ascii, dashed-ascii, dashed-append, grouped-content, grouped-runs, joined-dashed, pieces-dashed, runs-clean}
-use Rattle.language_tags_grammar.proofs.ScannedText.{first-clean, pieces-part_text, rest-clean}
+use Rattle.language_tags_grammar.specs.Lemmas.KeptLaws.{AreClean, between-middle, clean-ascii, dashed-ascii, dashed-append, grouped-content, grouped-runs, joined-dashed, pieces-dashed, runs-clean}
+use Rattle.language_tags_grammar.specs.Lemmas.ScannedText.{first-clean, pieces-part_text, rest-clean}
 use Rattle.language_tags.specs.Extensions.{AreExtensionsOf, IsExtensionsText, extensions_in}
 
 -- ---- the steps over pieces

@@ -2,7 +2,7 @@
 use Rattle.std.proofs.Common.{Bor, ◌≡◌, ℕ, ◌+◌, ◌<◌, ◌≤◌, Bool, true, false, not, cond, List, [], ◌∷◌, ◌++◌, Option, Some, None, length, take, drop, refl, sym, ap, ◌∙◌, arith, append_assoc, length-append, subst, map}
 use Rattle.std.specs.Prelude.{MatchOption, codes, is_none, is_some, nat_eq}
 use Rattle.std.proofs.lemmas.List.Splits.{join_with_byte-slice_split}
-use Rattle.language_tags_grammar.proofs.Unique.{same_pieces}
+use Rattle.language_tags_grammar.specs.Lemmas.Unique.{same_pieces}
 use Rattle.std.specs.List.{flat_map, list_all, starts_with}
 use Rattle.std.specs.Str.{IsAscii}
 use Rattle.std.proofs.lemmas.List.{take_at, take_rest}
@@ -15,10 +15,10 @@ use Rattle.language_tags_grammar.specs.Pieces.{dashed, joined, lowercase, part_t
 use Rattle.language_tags_grammar.specs.Shapes.{is_extlang, is_private, is_variant}
 use Rattle.language_tags_grammar.specs.Tag.{Extension, Parts, Tag, Whole, Plain, at_most_one, extension_pieces, extensions_of, extlangs_of, front_of, full_language_of, language_of, print, private_of, private_pieces, region_of, script_of, variants_of}
 use Rattle.language_tags_grammar.specs.declared.ends.Ends.{Ends}
-use Rattle.language_tags_grammar.proofs.ScannedText.{begins-x, first-clean, rest-clean}
-use Rattle.language_tags_grammar.proofs.KeptLaws.{AreClean, E, P, R, S, T, V, X, at-extensions, at-extlangs, at-language, at-private, at-region, at-script, at-variants, dashed-append, each-clean, joined-dashed, pieces-dashed, pieces-print, print-ascii, smalls-clean, text-parts}
-use Rattle.language_tags_grammar.proofs.PartsLaws.{extlang-small, private-small, variant-small}
-use Rattle.language_tags_grammar.proofs.PieceLaws.{some_piece}
+use Rattle.language_tags_grammar.specs.Lemmas.ScannedText.{begins-x, first-clean, rest-clean}
+use Rattle.language_tags_grammar.specs.Lemmas.KeptLaws.{AreClean, E, P, R, S, T, V, X, at-extensions, at-extlangs, at-language, at-private, at-region, at-script, at-variants, dashed-append, each-clean, joined-dashed, pieces-dashed, pieces-print, print-ascii, smalls-clean, text-parts}
+use Rattle.language_tags_grammar.specs.Lemmas.PartsLaws.{extlang-small, private-small, variant-small}
+use Rattle.language_tags_grammar.specs.Lemmas.PieceLaws.{some_piece}
 
 module _ (o : Option Ends) (text t : List ℕ) (ends : Ends) (g : Tag) (inv : IsKept o text) (is : o ≡ Some ends) (same : t ≡ text)
     (view : tag_at o text ≡ g) where

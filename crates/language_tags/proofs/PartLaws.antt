@@ -3,7 +3,7 @@ use Rattle.std.proofs.Common.{◌≡◌, ℕ, ◌+◌, ◌-◌, ◌<◌, ◌≤�
 use Rattle.std.proofs.lemmas.List.{drop-drop, length-take, length-drop}
 use Rattle.language_tags_grammar.specs.Kept.{between}
 use Rattle.language_tags_grammar.specs.Pieces.{dashed, part_text}
-use Rattle.language_tags_grammar.proofs.KeptLaws.{joined-dashed}
+use Rattle.language_tags_grammar.specs.Lemmas.KeptLaws.{joined-dashed}
 
 tail-between : (start end : ℕ) (text : List ℕ) → start < end → drop 1 (between start end text) ≡ between (start + 1) end text
 tail-between start end text lt = by (drop start text) (end - start) (end - (start + 1)) (omega arith) ∙ ap (take (end - (start + 1))) (drop-drop 1 start text)

@@ -13,10 +13,10 @@ use Rattle.language_tags_grammar.specs.TagOf.{BeginsOtherwise, IsTagOf, StandsBe
 use Rattle.language_tags_grammar.specs.declared.ends.Ends.{Ends}
 use Rattle.language_tags_grammar.specs.declared.error.ParseError.{ParseError}
 use Rattle.language_tags_grammar.specs.declared.error.ParseError.TheVariants.{EmptyPrivateUse, ForbiddenChar, SubtagTooLong, EmptySubtag}
-use Rattle.language_tags_grammar.proofs.Faults.{Scanned, no_bytes, scanned_law}
-use Rattle.language_tags_grammar.proofs.ScannedText.{begins-x}
-use Rattle.language_tags_grammar.proofs.PieceLaws.{some_piece}
-use Rattle.language_tags_grammar.proofs.PrivateLaws.{Checked, all_private, checked_more, checked_none, first_bad}
+use Rattle.language_tags_grammar.specs.Lemmas.Faults.{Scanned, no_bytes, scanned_law}
+use Rattle.language_tags_grammar.specs.Lemmas.ScannedText.{begins-x}
+use Rattle.language_tags_grammar.specs.Lemmas.PieceLaws.{some_piece}
+use Rattle.language_tags_grammar.specs.Lemmas.PrivateLaws.{Checked, all_private, checked_more, checked_none, first_bad}
 
 -- ---- what stands behind `x-`
 

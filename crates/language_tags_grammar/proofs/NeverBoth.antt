@@ -15,11 +15,11 @@ use Rattle.language_tags_grammar.specs.declared.error.ParseError.{ParseError}
 use Rattle.language_tags_grammar.specs.declared.error.ParseError.TheVariants.{EmptyExtension, EmptyPrivateUse, ForbiddenChar, InvalidSubtag, InvalidLanguage, SubtagTooLong, EmptySubtag, TooManyExtlangs, NoMemory}
 use Rattle.language_tags_grammar.specs.declared.stage.Stage.{Stage}
 use Rattle.language_tags_grammar.specs.declared.stage.Stage.TheVariants.{Start, Singleton, X}
-use Rattle.language_tags_grammar.proofs.Faults.{Ended, Stops, outcome, reached_nothing, stage_in}
-use Rattle.language_tags_grammar.proofs.Flat.{Flat, nothing}
-use Rattle.language_tags_grammar.proofs.Forward.{run}
-use Rattle.language_tags_grammar.proofs.Grammar.{parts_passed, singleton_passed, x_passed}
-use Rattle.language_tags_grammar.proofs.PartsLaws.{IsEnd, flat, in_front, in_private}
+use Rattle.language_tags_grammar.specs.Lemmas.Faults.{Ended, Stops, outcome, reached_nothing, stage_in}
+use Rattle.language_tags_grammar.specs.Lemmas.Flat.{Flat, nothing}
+use Rattle.language_tags_grammar.specs.Lemmas.Forward.{run}
+use Rattle.language_tags_grammar.specs.Lemmas.Grammar.{parts_passed, singleton_passed, x_passed}
+use Rattle.language_tags_grammar.specs.Lemmas.PartsLaws.{IsEnd, flat, in_front, in_private}
 
 -- ---- langtags
 

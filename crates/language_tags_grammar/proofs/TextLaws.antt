@@ -17,11 +17,11 @@ use Rattle.language_tags_grammar.specs.TagFault.{IsFaultBehindX, IsFaultOf, IsFa
 use Rattle.language_tags_grammar.specs.TagOf.{BeginsOtherwise, IsTagOf, StandsBehindX, langtag, private_use, whole}
 use Rattle.language_tags_grammar.specs.declared.ends.Ends.{Ends}
 use Rattle.language_tags_grammar.specs.declared.error.ParseError.{ParseError}
-use Rattle.language_tags_grammar.proofs.Faults.{Scanned, scanned_law}
+use Rattle.language_tags_grammar.specs.Lemmas.Faults.{Scanned, scanned_law}
 use Rattle.language_tags_grammar.proofs.NeverBoth.{never_both}
-use Rattle.language_tags_grammar.proofs.PieceLaws.{some_piece}
-use Rattle.language_tags_grammar.proofs.ScannedText.{scanned-case, was_scanned}
-use Rattle.language_tags_grammar.proofs.Unique.{one_tag}
+use Rattle.language_tags_grammar.specs.Lemmas.PieceLaws.{some_piece}
+use Rattle.language_tags_grammar.specs.Lemmas.ScannedText.{scanned-case, was_scanned}
+use Rattle.language_tags_grammar.specs.Lemmas.Unique.{one_tag}
 
 -- the text is a tag; it is a tag and the tag's own text
 abbrev pub IsText : List ℕ → Type 0

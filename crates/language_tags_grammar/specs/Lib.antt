@@ -8,3 +8,4 @@ pub mod TagFault
 pub mod Scan
 pub mod Kept
 pub mod Case
+pub mod Lemmas

@@ -48,7 +48,7 @@ pub fn check(rest: &str) -> Result<(), ParseError>
     Ok(())
 }
 
-#[tactic(auto, using(crate::proofs::PrivateLaws::allowed_lowercase))]
+#[tactic(auto, using(crate::specs::Lemmas::PrivateLaws::allowed_lowercase))]
 fn are_allowed(rest: &[u8]) -> bool
     ensures { result ≡ are_allowed (lowercase rest.now) }
 {

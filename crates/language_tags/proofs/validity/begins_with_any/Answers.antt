@@ -1,7 +1,7 @@
 use Rattle.std.proofs.Common.{Some, None, sym, ◌∙◌, rules}
 use Rattle.std.specs.List.{slice_split}
 use Rattle.language_tags.specs.Valid.{begins, is_space}
-use Rattle.language_tags_grammar.proofs.PieceLaws.{fewer}
+use Rattle.language_tags_grammar.specs.Lemmas.PieceLaws.{fewer}
 use Rattle.language_tags.proofs.ValidLaws.{any_hit, any_last, any_miss, first_word}
 use Rattle.language_tags.proofs.validity.begins_with_any.Goals as goal
 

@@ -2,7 +2,7 @@ use Rattle.std.proofs.Common.{Some, None, ap, sym, ◌∙◌, rules}
 use Rattle.std.specs.List.{list_any}
 use Rattle.std.specs.Str.{bytes_eq}
 use Rattle.language_tags_grammar.specs.Pieces.{pieces}
-use Rattle.language_tags_grammar.proofs.PieceLaws.{fewer, first_piece}
+use Rattle.language_tags_grammar.specs.Lemmas.PieceLaws.{fewer, first_piece}
 use Rattle.language_tags.proofs.ValidLaws.{different_hit, different_miss, different_one}
 use Rattle.language_tags.proofs.validity.has_different_pieces.Goals as goal
 

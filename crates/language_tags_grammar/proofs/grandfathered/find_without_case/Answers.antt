@@ -1,5 +1,5 @@
 use Rattle.std.proofs.Common.{sym, ◌∙◌}
-use Rattle.language_tags_grammar.proofs.FindLaws.{found, other_text, passed, same_text}
+use Rattle.language_tags_grammar.specs.Lemmas.FindLaws.{found, other_text, passed, same_text}
 use Rattle.language_tags_grammar.proofs.grandfathered.find_without_case.Goals as goal
 
 pub returns-then-eq_ignore_ascii_case : goal.returns-then-eq_ignore_ascii_case

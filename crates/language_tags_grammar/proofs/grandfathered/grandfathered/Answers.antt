@@ -1,7 +1,7 @@
 use Rattle.std.proofs.Common.{sym, ap, ◌∙◌}
 use Rattle.language_tags_grammar.specs.Grandfathered.{may_be_grandfathered}
 use Rattle.language_tags_grammar.specs.Pieces.{lowercase}
-use Rattle.language_tags_grammar.proofs.FindLaws.{not_grandfathered}
+use Rattle.language_tags_grammar.specs.Lemmas.FindLaws.{not_grandfathered}
 use Rattle.language_tags_grammar.proofs.grandfathered.grandfathered.Goals as goal
 
 pub returns-else-may_be_grandfathered : goal.returns-else-may_be_grandfathered

@@ -1,5 +1,5 @@
 use Rattle.std.proofs.Common.{◌∙◌, Some, None}
-use Rattle.language_tags_grammar.proofs.FindLaws.{is_grandfathered_is}
+use Rattle.language_tags_grammar.specs.Lemmas.FindLaws.{is_grandfathered_is}
 use Rattle.language_tags_grammar.proofs.grandfathered.is_grandfathered.Goals as goal
 
 pub returns-in-Some : goal.returns-in-Some

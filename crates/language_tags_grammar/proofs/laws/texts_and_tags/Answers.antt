@@ -1,6 +1,6 @@
 use Rattle.language_tags_grammar.proofs.Neither.{tag_or_fault}
 use Rattle.language_tags_grammar.proofs.NeverBoth.{never_both}
-use Rattle.language_tags_grammar.proofs.Unique.{one_tag, printed_again}
+use Rattle.language_tags_grammar.specs.Lemmas.Unique.{one_tag, printed_again}
 use Rattle.language_tags_grammar.proofs.laws.texts_and_tags.Goals as goal
 
 pub returns : goal.returns

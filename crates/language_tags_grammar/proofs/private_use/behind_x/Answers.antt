@@ -1,6 +1,6 @@
 use Rattle.std.proofs.Common.{None}
-use Rattle.language_tags_grammar.proofs.PieceLaws.{first_piece}
-use Rattle.language_tags_grammar.proofs.PrivateLaws.{no_dash_otherwise}
+use Rattle.language_tags_grammar.specs.Lemmas.PieceLaws.{first_piece}
+use Rattle.language_tags_grammar.specs.Lemmas.PrivateLaws.{no_dash_otherwise}
 use Rattle.language_tags_grammar.proofs.private_use.behind_x.Goals as goal
 
 pub returns-in-None : goal.returns-in-None

@@ -6,9 +6,9 @@ use Rattle.std.proofs.lemmas.List.{length-map}
 use Rattle.std.specs.Char.{to_ascii_lowercase}
 use Rattle.language_tags_grammar.specs.Pieces.{lowercase, pieces}
 use Rattle.language_tags_grammar.specs.TagFault.{are_allowed}
-use Rattle.language_tags_grammar.proofs.Faults.{no_bytes}
-use Rattle.language_tags_grammar.proofs.PieceLaws.{pieces-lowercase}
-use Rattle.language_tags_grammar.proofs.PrivateLaws.{Checked, all_private, checked_more, checked_none, first_bad, some_bytes}
+use Rattle.language_tags_grammar.specs.Lemmas.Faults.{no_bytes}
+use Rattle.language_tags_grammar.specs.Lemmas.PieceLaws.{pieces-lowercase}
+use Rattle.language_tags_grammar.specs.Lemmas.PrivateLaws.{Checked, all_private, checked_more, checked_none, first_bad, some_bytes}
 use Rattle.language_tags_grammar.proofs.private_use.check.Goals as goal
 
 pub loop-piece-init : goal.loop-piece-init

@@ -3,7 +3,7 @@ use Rattle.std.proofs.Common.{◌≡◌, map, length, rules, ap, sym, ◌∙◌,
 use Rattle.language_tags_grammar.specs.Pieces.{dashed, lowercase, pieces}
 use Rattle.language_tags_grammar.specs.Scan.{no_ends, scanned_from}
 use Rattle.language_tags_grammar.specs.declared.stage.Stage.TheVariants.{Start}
-use Rattle.language_tags_grammar.proofs.PieceLaws.{length-dashed, pieces-lowercase}
+use Rattle.language_tags_grammar.specs.Lemmas.PieceLaws.{length-dashed, pieces-lowercase}
 use Rattle.language_tags_grammar.proofs.scan.scan.Goals as goal
 
 pub loop-piece-init : goal.loop-piece-init

@@ -1,6 +1,6 @@
 use Rattle.std.proofs.Common.{sym, ◌∙◌, ap}
 use Rattle.language_tags_grammar.specs.Case.{in_case}
-use Rattle.language_tags_grammar.proofs.ScannedText.{scanned-region, scanned-script, scanned-within}
+use Rattle.language_tags_grammar.specs.Lemmas.ScannedText.{scanned-region, scanned-script, scanned-within}
 use Rattle.language_tags_grammar.proofs.TextLaws.{no_print, fault_of_scan, print_of_scan}
 use Rattle.language_tags_grammar.proofs.texts.is_printed_langtag.Goals as goal
 

@@ -4,7 +4,7 @@ use Rattle.std.specs.Option.{option_copied}
 use Rattle.language_tags.specs.Extensions.{extensions_in, item_of}
 use Rattle.std.specs.Prelude.{slice_index}
 use Rattle.language_tags_grammar.specs.Pieces.{joined}
-use Rattle.language_tags_grammar.proofs.PieceLaws.{fewer}
+use Rattle.language_tags_grammar.specs.Lemmas.PieceLaws.{fewer}
 use Rattle.language_tags.proofs.ExtensionLaws.{content-text, end-within, first-byte, pieces-within, rest-kept, rest-view, text-ascii, the_cut}
 use Rattle.language_tags.proofs.extensions.ExtensionsIteratorIterator.next.Goals as goal
 

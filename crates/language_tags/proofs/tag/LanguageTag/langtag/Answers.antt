@@ -1,9 +1,9 @@
 use Rattle.std.proofs.Common.{sym}
 use Rattle.std.proofs.lemmas.Result.{MatchResult-at_err, err_from_is_err_and}
 use Rattle.language_tags_grammar.specs.Pieces.{lowercase, pieces}
-use Rattle.language_tags_grammar.proofs.Faults.{Scanned, scanned_law}
+use Rattle.language_tags_grammar.specs.Lemmas.Faults.{Scanned, scanned_law}
 use Rattle.language_tags_grammar.specs.TagFault.{IsFaultOfPieces}
-use Rattle.language_tags_grammar.proofs.PieceLaws.{some_piece}
+use Rattle.language_tags_grammar.specs.Lemmas.PieceLaws.{some_piece}
 use Rattle.language_tags.proofs.tag.LanguageTag.langtag.Goals as goal
 
 pub with_ends-requires : goal.with_ends-requires

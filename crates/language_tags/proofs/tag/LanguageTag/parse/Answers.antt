@@ -4,7 +4,7 @@ use Rattle.std.proofs.lemmas.Result.{IfOk-weaker, MatchResult-weaker}
 use Rattle.language_tags_grammar.specs.Pieces.{lowercase}
 use Rattle.language_tags_grammar.specs.TagFault.{behind_x, in_pieces}
 use Rattle.language_tags_grammar.specs.TagOf.{langtag, private_use, whole}
-use Rattle.language_tags_grammar.proofs.FindLaws.{grandfathered-ascii}
+use Rattle.language_tags_grammar.specs.Lemmas.FindLaws.{grandfathered-ascii}
 use Rattle.language_tags.proofs.tag.LanguageTag.parse.Goals as goal
 
 pub whole-requires : goal.whole-requires

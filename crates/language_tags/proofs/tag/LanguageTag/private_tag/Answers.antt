@@ -1,6 +1,6 @@
 use Rattle.std.proofs.lemmas.Result.{err_from_is_err_and}
 use Rattle.language_tags_grammar.specs.Pieces.{lowercase}
-use Rattle.language_tags_grammar.proofs.PrivateLaws.{private-ascii}
+use Rattle.language_tags_grammar.specs.Lemmas.PrivateLaws.{private-ascii}
 use Rattle.language_tags.proofs.tag.LanguageTag.private_tag.Goals as goal
 
 pub whole_in_lowercase-requires : goal.whole_in_lowercase-requires

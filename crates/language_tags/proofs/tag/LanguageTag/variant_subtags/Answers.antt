@@ -2,7 +2,7 @@ use Rattle.std.proofs.Common.{string_bytes, ap, ◌∙◌}
 use Rattle.language_tags_grammar.specs.Pieces.{pieces_of}
 use Rattle.language_tags_grammar.specs.Tag.{variants_of}
 use Rattle.language_tags.proofs.KeptUse.{variants-clean}
-use Rattle.language_tags_grammar.proofs.ScannedText.{pieces-part_text}
+use Rattle.language_tags_grammar.specs.Lemmas.ScannedText.{pieces-part_text}
 use Rattle.language_tags.proofs.tag.LanguageTag.variant_subtags.Goals as goal
 
 pub returns : goal.returns

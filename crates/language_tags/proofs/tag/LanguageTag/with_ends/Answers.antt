@@ -1,6 +1,6 @@
 use Rattle.std.proofs.Common.{◌∙◌, ap, string_bytes}
 use Rattle.language_tags_grammar.specs.Tag.{Plain}
-use Rattle.language_tags_grammar.proofs.ScannedText.{scanned-case, scanned-keeps, scanned-parts, scanned-region, scanned-script, scanned-utf8, scanned-within, was_scanned}
+use Rattle.language_tags_grammar.specs.Lemmas.ScannedText.{scanned-case, scanned-keeps, scanned-parts, scanned-region, scanned-script, scanned-utf8, scanned-within, was_scanned}
 use Rattle.language_tags.proofs.tag.LanguageTag.with_ends.Goals as goal
 
 pub in_case-requires : goal.in_case-requires

@@ -2,7 +2,7 @@
 use Rattle.std.proofs.Common.{◌∷◌, sym, ap, ◌∙◌, Some, None}
 use Rattle.std.specs.Option.{option_copied}
 use Rattle.language_tags_grammar.specs.Pieces.{pieces, pieces_of}
-use Rattle.language_tags_grammar.proofs.PieceLaws.{fewer, first_piece}
+use Rattle.language_tags_grammar.specs.Lemmas.PieceLaws.{fewer, first_piece}
 use Rattle.language_tags_grammar.proofs.subtags.SubtagsIterIterator.next.Goals as goal
 
 pub returns-in-Some-clause-steps : goal.returns-in-Some-clause-steps

@@ -14,9 +14,9 @@ use Rattle.language_tags_grammar.specs.Pieces.{dashed, joined, lowercase, pieces
 use Rattle.language_tags_grammar.specs.Shapes.{AreParts, is_region, is_script}
 use Rattle.language_tags_grammar.specs.Tag.{Parts, at_most_one, written}
 use Rattle.language_tags_grammar.specs.declared.ends.Ends.{Ends}
-use Rattle.language_tags_grammar.proofs.Faults.{Scanned}
-use Rattle.language_tags_grammar.proofs.KeptLaws.{E, P, R, S, V, X, between-middle, text-parts}
-use Rattle.language_tags_grammar.proofs.PartsLaws.{letters-small, region-upper, small-lowercase, written-lowercase}
+use Rattle.language_tags_grammar.specs.Lemmas.Faults.{Scanned}
+use Rattle.language_tags_grammar.specs.Lemmas.KeptLaws.{E, P, R, S, V, X, between-middle, text-parts}
+use Rattle.language_tags_grammar.specs.Lemmas.PartsLaws.{letters-small, region-upper, small-lowercase, written-lowercase}
 
 -- ---- maps and cuts
 

@@ -15,9 +15,9 @@ use Rattle.std.specs.Str.{IsAscii}
 use Rattle.std.proofs.lemmas.List.Splits.{join_with_byte-slice_split}
 use Rattle.std.proofs.lemmas.Str.{IsAscii-append}
 use Rattle.std.proofs.lemmas.Str.Ascii.{IsAscii-cons, IsAscii-nil}
-use Rattle.language_tags_grammar.proofs.PartsLaws.{private-small}
-use Rattle.language_tags_grammar.proofs.KeptLaws.{IsClean, clean-ascii, dashed-ascii, each-clean, joined-dashed, smalls-clean}
-use Rattle.language_tags_grammar.proofs.PieceLaws.{pieces-lowercase, some_piece}
+use Rattle.language_tags_grammar.specs.Lemmas.PartsLaws.{private-small}
+use Rattle.language_tags_grammar.specs.Lemmas.KeptLaws.{IsClean, clean-ascii, dashed-ascii, each-clean, joined-dashed, smalls-clean}
+use Rattle.language_tags_grammar.specs.Lemmas.PieceLaws.{pieces-lowercase, some_piece}
 
 -- pieces that are of one to eight bytes, and those that are left
 pub record Checked (ps rest : List (List ℕ)) : Type 0 where

@@ -13,10 +13,10 @@ use Rattle.language_tags_grammar.specs.Shapes.{AreParts, IsExtension, is_content
 use Rattle.language_tags_grammar.specs.Tag.{Extension as Run, Parts, at_most_one, extension_pieces, private_pieces, written}
 use Rattle.language_tags_grammar.specs.declared.stage.Stage.{Stage}
 use Rattle.language_tags_grammar.specs.declared.stage.Stage.TheVariants.{Start, X}
-use Rattle.language_tags_grammar.proofs.Flat.{Flat, nothing, seen}
-use Rattle.language_tags_grammar.proofs.Holds.{Whole}
-use Rattle.language_tags_grammar.proofs.Forward.{rank, run, to_x}
-use Rattle.language_tags_grammar.proofs.Runs.{Passes, named, only, pass_extlangs, pass_language, pass_more, pass_private, pass_region, pass_runs, pass_script, pass_variants, passes_both, with_private}
+use Rattle.language_tags_grammar.specs.Lemmas.Flat.{Flat, nothing, seen}
+use Rattle.language_tags_grammar.specs.Lemmas.Holds.{Whole}
+use Rattle.language_tags_grammar.specs.Lemmas.Forward.{rank, run, to_x}
+use Rattle.language_tags_grammar.specs.Lemmas.Runs.{Passes, named, only, pass_extlangs, pass_language, pass_more, pass_private, pass_region, pass_runs, pass_script, pass_variants, passes_both, with_private}
 
 -- ---- case
 

@@ -12,9 +12,9 @@ use Rattle.language_tags_grammar.specs.declared.error.ParseError.{ParseError}
 use Rattle.language_tags_grammar.specs.declared.error.ParseError.TheVariants.{InvalidLanguage}
 use Rattle.language_tags_grammar.specs.declared.stage.Stage.{Stage}
 use Rattle.language_tags_grammar.specs.declared.stage.Stage.TheVariants.{Start, LongLanguage, Extlangs, Script, Region, Variant, Singleton, Extension, Private}
-use Rattle.language_tags_grammar.proofs.Flat.{Flat, ends-grown, ends_of, grown, nothing, place, place-grown, seen, seen-grown}
-use Rattle.language_tags_grammar.proofs.Holds.{Holds, Leads, stage_after_leads}
-use Rattle.language_tags_grammar.proofs.Forward.{rank, run, run_step, sized, to_content, to_extlang, to_private, to_region, to_script, to_singleton, to_variant}
+use Rattle.language_tags_grammar.specs.Lemmas.Flat.{Flat, ends-grown, ends_of, grown, nothing, place, place-grown, seen, seen-grown}
+use Rattle.language_tags_grammar.specs.Lemmas.Holds.{Holds, Leads, stage_after_leads}
+use Rattle.language_tags_grammar.specs.Lemmas.Forward.{rank, run, run_step, sized, to_content, to_extlang, to_private, to_region, to_script, to_singleton, to_variant}
 
 -- pieces lead to a stage in these bounds and to sections, whatever follows
 pub record Passes (low high : ℕ) (s : Stage) (f : Flat) (ps : List (List ℕ)) (g : Flat) : Type 0 where

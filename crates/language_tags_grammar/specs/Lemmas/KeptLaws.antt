@@ -13,7 +13,7 @@ use Rattle.language_tags_grammar.specs.Pieces.{dashed, is_dash, joined, pieces}
 use Rattle.language_tags_grammar.specs.Shapes.{AreParts, IsExtension, is_content, is_extlang, is_private, is_region, is_script, is_small, is_variant}
 use Rattle.language_tags_grammar.specs.Tag.{Extension as Run, Parts, at_most_one, behind_language, extension_pieces, private_pieces, written}
 use Rattle.language_tags_grammar.specs.declared.ends.Ends.{Ends}
-use Rattle.language_tags_grammar.proofs.PartsLaws.{all-weaker, content-small, extlang-small, language-small, private-small, variant-small}
+use Rattle.language_tags_grammar.specs.Lemmas.PartsLaws.{all-weaker, content-small, extlang-small, language-small, private-small, variant-small}
 
 -- ---- joined pieces
 

@@ -17,12 +17,12 @@ use Rattle.language_tags_grammar.specs.declared.error.ParseError.{ParseError}
 use Rattle.language_tags_grammar.specs.declared.error.ParseError.TheVariants.{EmptyExtension, EmptyPrivateUse, ForbiddenChar, InvalidSubtag, InvalidLanguage, SubtagTooLong, EmptySubtag, TooManyExtlangs, NoMemory}
 use Rattle.language_tags_grammar.specs.declared.stage.Stage.{Stage}
 use Rattle.language_tags_grammar.specs.declared.stage.Stage.TheVariants.{Start, LongLanguage, Extlangs, Script, Region, Variant, Singleton, Extension, X, Private}
-use Rattle.language_tags_grammar.proofs.Flat.{Flat, ends_of, grown, nothing, seen, seen-grown}
-use Rattle.language_tags_grammar.proofs.Holds.{Holds, HoldsExtlangs, Leads, stage_after_leads}
-use Rattle.language_tags_grammar.proofs.Forward.{rank, run, run_step}
-use Rattle.language_tags_grammar.proofs.Runs.{last, scanned_is}
-use Rattle.language_tags_grammar.proofs.PartsLaws.{flat}
-use Rattle.language_tags_grammar.proofs.Grammar.{Made, begun_passed, holds_begun, holds_made, singleton_ends, singleton_passed, third_passed, x_ends}
+use Rattle.language_tags_grammar.specs.Lemmas.Flat.{Flat, ends_of, grown, nothing, seen, seen-grown}
+use Rattle.language_tags_grammar.specs.Lemmas.Holds.{Holds, HoldsExtlangs, Leads, stage_after_leads}
+use Rattle.language_tags_grammar.specs.Lemmas.Forward.{rank, run, run_step}
+use Rattle.language_tags_grammar.specs.Lemmas.Runs.{last, scanned_is}
+use Rattle.language_tags_grammar.specs.Lemmas.PartsLaws.{flat}
+use Rattle.language_tags_grammar.specs.Lemmas.Grammar.{Made, begun_passed, holds_begun, holds_made, singleton_ends, singleton_passed, third_passed, x_ends}
 
 -- ---- why a piece is refused
 

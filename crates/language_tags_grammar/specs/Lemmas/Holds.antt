@@ -12,7 +12,7 @@ use Rattle.language_tags_grammar.specs.declared.error.ParseError.{ParseError}
 use Rattle.language_tags_grammar.specs.declared.error.ParseError.TheVariants.{EmptyExtension, InvalidSubtag, InvalidLanguage, SubtagTooLong, EmptySubtag, TooManyExtlangs}
 use Rattle.language_tags_grammar.specs.declared.stage.Stage.{Stage}
 use Rattle.language_tags_grammar.specs.declared.stage.Stage.TheVariants.{Start, LongLanguage, Extlangs, Script, Region, Variant, Singleton, Extension, X, Private}
-use Rattle.language_tags_grammar.proofs.Flat.{Flat, NoneBehind, NoneBehindExtlangs, NoneBehindLanguage, NoneBehindRegion, NoneBehindScript, NoneBehindVariants, NonePrivate, grown, nothing}
+use Rattle.language_tags_grammar.specs.Lemmas.Flat.{Flat, NoneBehind, NoneBehindExtlangs, NoneBehindLanguage, NoneBehindRegion, NoneBehindScript, NoneBehindVariants, NonePrivate, grown, nothing}
 
 -- the language and its extlangs
 pub record Head (language extlangs : List (List ℕ)) : Type 0 where

@@ -11,7 +11,7 @@ use Rattle.language_tags_grammar.specs.declared.error.ParseError.{ParseError}
 use Rattle.language_tags_grammar.specs.declared.error.ParseError.TheVariants.{EmptyExtension, InvalidSubtag, SubtagTooLong, EmptySubtag, TooManyExtlangs}
 use Rattle.language_tags_grammar.specs.declared.stage.Stage.{Stage}
 use Rattle.language_tags_grammar.specs.declared.stage.Stage.TheVariants.{Start, LongLanguage, Extlangs, Script, Region, Variant, Singleton, Extension, X, Private}
-use Rattle.language_tags_grammar.proofs.Flat.{Flat, grown}
+use Rattle.language_tags_grammar.specs.Lemmas.Flat.{Flat, grown}
 
 -- the stage and the sections behind pieces
 abbrev pub run : Stage → Flat → List (List ℕ) → Result (Stage × Flat) ParseError

@@ -18,11 +18,11 @@ use Rattle.language_tags_grammar.specs.TagOf.{IsLangtag, IsTagOf, langtag, priva
 use Rattle.language_tags_grammar.specs.declared.error.ParseError.{ParseError}
 use Rattle.language_tags_grammar.specs.declared.stage.Stage.{Stage}
 use Rattle.language_tags_grammar.specs.declared.stage.Stage.TheVariants.{Start}
-use Rattle.language_tags_grammar.proofs.Flat.{Flat, nothing}
-use Rattle.language_tags_grammar.proofs.Forward.{run}
-use Rattle.language_tags_grammar.proofs.Grammar.{parts_passed}
-use Rattle.language_tags_grammar.proofs.KeptLaws.{grouped-runs}
-use Rattle.language_tags_grammar.proofs.PartsLaws.{flat, region-upper, script-title}
+use Rattle.language_tags_grammar.specs.Lemmas.Flat.{Flat, nothing}
+use Rattle.language_tags_grammar.specs.Lemmas.Forward.{run}
+use Rattle.language_tags_grammar.specs.Lemmas.Grammar.{parts_passed}
+use Rattle.language_tags_grammar.specs.Lemmas.KeptLaws.{grouped-runs}
+use Rattle.language_tags_grammar.specs.Lemmas.PartsLaws.{flat, region-upper, script-title}
 
 -- ---- parts by their sections
 

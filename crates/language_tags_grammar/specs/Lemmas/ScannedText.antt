@@ -15,11 +15,11 @@ use Rattle.language_tags_grammar.specs.Scan.{scanned}
 use Rattle.language_tags_grammar.specs.Tag.{Parts, written}
 use Rattle.language_tags_grammar.specs.TagFault.{IsFaultOfPieces}
 use Rattle.language_tags_grammar.specs.declared.ends.Ends.{Ends}
-use Rattle.language_tags_grammar.proofs.CaseLaws.{in_case-parts, scanned-ends, scanned-text, small, small-ends}
-use Rattle.language_tags_grammar.proofs.Faults.{Scanned, scanned_law}
-use Rattle.language_tags_grammar.proofs.KeptLaws.{AreClean, E, IsClean, P, R, S, V, X, joined-dashed, keeps, parts_at-text, pieces-dashed, print-ascii, text-parts}
-use Rattle.language_tags_grammar.proofs.PartsLaws.{written-lowercase}
-use Rattle.language_tags_grammar.proofs.PieceLaws.{some_piece}
+use Rattle.language_tags_grammar.specs.Lemmas.CaseLaws.{in_case-parts, scanned-ends, scanned-text, small, small-ends}
+use Rattle.language_tags_grammar.specs.Lemmas.Faults.{Scanned, scanned_law}
+use Rattle.language_tags_grammar.specs.Lemmas.KeptLaws.{AreClean, E, IsClean, P, R, S, V, X, joined-dashed, keeps, parts_at-text, pieces-dashed, print-ascii, text-parts}
+use Rattle.language_tags_grammar.specs.Lemmas.PartsLaws.{written-lowercase}
+use Rattle.language_tags_grammar.specs.Lemmas.PieceLaws.{some_piece}
 
 pub begins-x : (t : List ℕ) → starts_with nat_eq t (codes "x-") ≡ true → codes "x-" ++ drop 2 t ≡ t
 begins-x t e = ap (λ a. a ++ drop 2 t) ((bytes_eq-Decides (codes "x-") (take 2 t)).0 e) ∙ take-append-drop 2 t

@@ -10,11 +10,11 @@ use Rattle.language_tags_grammar.specs.Tag.{Parts, private_pieces, written}
 use Rattle.language_tags_grammar.specs.declared.ends.Ends.{Ends}
 use Rattle.language_tags_grammar.specs.declared.stage.Stage.{Stage}
 use Rattle.language_tags_grammar.specs.declared.stage.Stage.TheVariants.{Start, LongLanguage, Extlangs, Script, Region, Variant, Singleton, Extension, X, Private}
-use Rattle.language_tags_grammar.proofs.Flat.{Flat, NonePrivate, grown, nothing, seen, seen-grown}
-use Rattle.language_tags_grammar.proofs.Holds.{Holds, HoldsPrivate, HoldsSingleton, HoldsX, Whole, whole_extension}
-use Rattle.language_tags_grammar.proofs.Forward.{rank, run, run_step, to_singleton, to_x}
-use Rattle.language_tags_grammar.proofs.Runs.{only, pass_language, run_extlangs, with_extlangs, with_private}
-use Rattle.language_tags_grammar.proofs.PartsLaws.{IsEnd, are_parts, flat, flat-parts_of, parsed, parsed_front, parts_of, written-lowercase}
+use Rattle.language_tags_grammar.specs.Lemmas.Flat.{Flat, NonePrivate, grown, nothing, seen, seen-grown}
+use Rattle.language_tags_grammar.specs.Lemmas.Holds.{Holds, HoldsPrivate, HoldsSingleton, HoldsX, Whole, whole_extension}
+use Rattle.language_tags_grammar.specs.Lemmas.Forward.{rank, run, run_step, to_singleton, to_x}
+use Rattle.language_tags_grammar.specs.Lemmas.Runs.{only, pass_language, run_extlangs, with_extlangs, with_private}
+use Rattle.language_tags_grammar.specs.Lemmas.PartsLaws.{IsEnd, are_parts, flat, flat-parts_of, parsed, parsed_front, parts_of, written-lowercase}
 
 -- ---- sections that hold begin a tag
 
