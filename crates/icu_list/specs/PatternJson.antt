@@ -1,5 +1,5 @@
 -- Patterns as JSON objects: `string` is the text without placeholders, and `index_1` the place of the second item in it.
-use Rattle.std.specs.Prelude.{◌≡◌, ℕ, ◌≤◌, List, Option, Some, None, codes, chars, option_and_then}
+use Rattle.std.specs.Prelude.{◌≡◌, ℕ, ◌≤◌, List, Option, Some, codes, chars, option_and_then}
 use Rattle.serde_json.specs.Data.{Data}
 use Rattle.serde_json.specs.Find.{get, as_str, as_u64, as_number}
 use Rattle.icu_list.specs.Pattern.{Pattern, IsPlace, pattern_at}

@@ -210,7 +210,7 @@ fn split(text: &str) -> Option<(&str, &str, &str)>
     ensures { MatchOption result
         (pattern_of (chars text.now) ≡ None)
         (λ x. pattern_of (chars text.now)
-            ≡ Some (pattern (chars x.0.now) (chars x.1.now) (chars x.2.now))) }
+        ≡ Some (pattern (chars x.0.now) (chars x.1.now) (chars x.2.now))) }
 {
     let (prefix, rest) = cut(text, "{0}")?;
     if cut(prefix, "{1}").is_some() {
