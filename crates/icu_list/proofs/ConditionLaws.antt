@@ -1,10 +1,10 @@
 -- A pattern that is a condition has one expression, and whether it holds on a text is decided by that.
-use Rattle.std.proofs.Common.{◌≡◌, ℕ, ◌≤◌, Bool, true, false, List, [], ◌∷◌, ◌++◌, length, Option, Some, None, Result, Ok, Err, ◌⊎◌, inl, inr, refl, sym, ap, subst, ◌∙◌, arith, append-nil}
+use Rattle.std.proofs.Common.{◌≡◌, ℕ, Bool, true, false, List, [], ◌++◌, length, Result, Ok, Err, inl, inr, refl, sym, ap, subst, ◌∙◌, arith, append-nil}
 use Rattle.std.specs.Prelude.{◌↔◌, nat_le, if◌then◌else◌}
 use Rattle.lazy_dfa.specs.Expression.{Expression}
 use Rattle.lazy_dfa.specs.Machine.{Machine, IsFor}
 use Rattle.lazy_dfa.specs.Meaning.{holds}
-use Rattle.lazy_dfa.specs.Parsing.{behind, parse, needed, Found, found, Alternatives}
+use Rattle.lazy_dfa.specs.Parsing.{behind, parse, needed, found, Alternatives}
 use Rattle.lazy_dfa.specs.Refusals.{condition, most_characters}
 use Rattle.lazy_dfa.specs.Syntax.{alt}
 use Rattle.lazy_dfa.specs.declared.error.ConditionError.{ConditionError}

@@ -1,10 +1,10 @@
 -- The first occurrence of a word in a text, in bytes and in characters.
-use Rattle.std.proofs.Common.{◌≡◌, ◌≢◌, ℕ, ◌+◌, ◌-◌, ◌<◌, ◌≤◌, Bool, true, false, List, [], ◌∷◌, ◌++◌, length, take, drop, Option, Some, None, refl, sym, ap, subst, ◌∙◌, arith, append_assoc, append-nil, length-append, chars}
+use Rattle.std.proofs.Common.{◌≡◌, ℕ, ◌+◌, ◌<◌, Bool, true, false, List, [], ◌∷◌, ◌++◌, length, take, drop, Option, Some, None, refl, sym, ap, subst, ◌∙◌, arith, append_assoc, length-append, chars}
 use Rattle.std.specs.Prelude.{nat_eq, if◌then◌else◌}
 use Rattle.std.specs.List.{starts_with}
 use Rattle.std.specs.Option.{option_map}
 use Rattle.std.specs.Str.{IsUtf8}
-use Rattle.std.specs.Str.Pattern.{FindsText, HasTextAt, LacksTextAt, SplitsAroundMatch}
+use Rattle.std.specs.Str.Pattern.{FindsText, LacksTextAt, SplitsAroundMatch}
 use Rattle.std.proofs.lemmas.Slice.Eq.{bytes_eq-Decides}
 use Rattle.std.proofs.lemmas.List.{take-append-drop}
 use Rattle.std.proofs.lemmas.Str.{chars-append, encodes-append, encodes-chars, length-le-encodes, IsUtf8-append, IsUtf8-take, IsUtf8-drop, IsCharBoundary-from_drop}
@@ -114,10 +114,10 @@ cut_found word text front back uw ut some (i, j, finds, f, b, le, lf, lb) =
     let utf8_front : IsUtf8 front = subst IsUtf8 (sym f) (IsUtf8-take text i ut (IsCharBoundary-from_drop text i (omega arith) utf8_rest)) in
     let whole : text ≡ front ++ (word ++ back) = sym (take-append-drop i text) ∙ ap (λ x. x ++ drop i text) (sym f) ∙ ap (λ x. front ++ x) rest in
     let characters : chars text ≡ chars front ++ (chars word ++ chars back) =
-      ap chars whole ∙ chars-append front (word ++ back) utf8_front ∙ ap (λ x. chars front ++ x) (chars-append word back uw) in
+    ap chars whole ∙ chars-append front (word ++ back) utf8_front ∙ ap (λ x. chars front ++ x) (chars-append word back uw) in
     ap (cut (chars word)) characters
     ∙ cut_first (chars word) (chars front) (chars back) (some_characters word uw some)
-      (lacking word text front i uw ut utf8_front lf (chars back) characters finds.0)
+    (lacking word text front i uw ut utf8_front lf (chars back) characters finds.0)
 
 -- and where it finds none there is none
 pub cut_missing : (word text : List ℕ) → IsUtf8 word → IsUtf8 text → FindsText word text None → cut (chars word) (chars text) ≡ None

@@ -1,11 +1,11 @@
 -- The nested substitution, from left to right.
 use Rattle.std.specs.Prelude.{◌==◌}
-use Rattle.std.proofs.Common.{◌≡◌, ℕ, ◌+◌, Bool, true, false, List, [], ◌∷◌, ◌++◌, length, map, refl, sym, ap, subst, ◌∙◌, arith, append_assoc}
+use Rattle.std.proofs.Common.{◌≡◌, ℕ, Bool, true, false, List, [], ◌∷◌, ◌++◌, length, map, refl, sym, ap, ◌∙◌, arith, append_assoc}
 use Rattle.std.proofs.lemmas.Bool.{eqb-true}
 use Rattle.icu_list.specs.Pattern.{Pattern}
 use Rattle.icu_list.specs.Patterns.{Closing, Patterns, end_for, two_for}
-use Rattle.icu_list.specs.Joined.{two, start, middle, end, rest, nested, last_of}
-use Rattle.icu_list.specs.Frames.{Frame, frame_two, frame_more, frame_for, left, whole}
+use Rattle.icu_list.specs.Joined.{two, start, middle, rest, nested, last_of}
+use Rattle.icu_list.specs.Frames.{frame_two, frame_more, frame_for, left, whole}
 
 module _ {A : Type 0} (literal : List ℕ → List A) (p : Patterns) (closing : Closing) (z : List A) where
   abbrev behind_all : List (List A) → List A

@@ -1,5 +1,5 @@
 -- A text that is written piece by piece: what was taken so far, and what is left.
-use Rattle.std.proofs.Common.{◌≡◌, ℕ, ◌≤◌, Bool, List, ◌++◌, Result, refl, sym, subst, ◌∙◌, append_assoc}
+use Rattle.std.proofs.Common.{◌≡◌, List, ◌++◌, refl, subst, ◌∙◌, append_assoc}
 use Rattle.writeable_core.specs.Sink.{TookPrefix}
 use Rattle.writeable_core.specs.SinkLaws.{front_of_longer, front_after}
 

@@ -1,18 +1,16 @@
 -- Patterns as they are stored.
 use Rattle.std.specs.Prelude.{if◌then◌else◌, unwrap_or}
 use Rattle.std.specs.Option.{option_map}
-use Rattle.std.proofs.Common.{◌≡◌, ℕ, Bool, true, false, List, [], Option, Some, None, Result, Ok, Err, refl, sym, ap, subst, ◌∙◌}
+use Rattle.std.proofs.Common.{◌≡◌, ℕ, Bool, true, false, List, [], Option, Some, None, Ok, refl, ap, ◌∙◌}
 use Rattle.writeable_core.specs.Texts.{same_text}
 use Rattle.icu_list.specs.Conditions.{applies}
 use Rattle.icu_list.specs.Pattern.{Pattern, pattern}
 use Rattle.icu_list.specs.PatternTexts.{pattern_of, is_empty, joiner, joiner_by, middle}
-use Rattle.icu_list.specs.Patterns.{Patterns, Closing, SpecialClosing, SpecialPattern, Pair, opening_of, closing_of, whole, closing_for, pattern_for, end_for, two_by, two_for}
-use Rattle.icu_list.specs.PatternsView.{special_closing_of, ending_of, special_pattern_of, pair_of, prefix_of_special, patterns}
+use Rattle.icu_list.specs.Patterns.{closing_of, whole, closing_for, pattern_for, two_for}
+use Rattle.icu_list.specs.PatternsView.{special_closing_of, special_pattern_of, pair_of, prefix_of_special, patterns}
 use Rattle.icu_list.specs.Choices.{chosen_by, chosen}
 use Rattle.icu_list.specs.Frames.{Frame, frame_two}
 use Rattle.icu_list.specs.ListFault.{ArePatternsOf, pair_for}
-use Rattle.icu_list.specs.declared.error.DataError.{DataError}
-use Rattle.icu_list.specs.declared.error.DataError.TheVariants.{InvalidPattern}
 use Rattle.icu_list.specs.declared.provider.conditional.ConditionalListJoinerPattern.{ConditionalListJoinerPattern}
 use Rattle.icu_list.specs.declared.provider.conditional.SpecialCasePattern.{SpecialCasePattern}
 use Rattle.icu_list.proofs.Reading.{not_allowed_prefix}
@@ -74,7 +72,7 @@ made s m e t start last two between end pair hs hm he ht default special kept = 
   pair_is = ht;
   kept_start = refl;
   kept_end = ap (λ (p : Pattern). record { default = closing_of p; special = option_map special_closing_of end.special_case }) default
-    ∙ ap (λ (o : Option SpecialCasePattern). record { default = closing_of last; special = option_map special_closing_of o }) special;
+      ∙ ap (λ (o : Option SpecialCasePattern). record { default = closing_of last; special = option_map special_closing_of o }) special;
   kept_pair = kept;
 }
 

@@ -1,8 +1,8 @@
 -- A middle pattern in bytes.
-use Rattle.std.proofs.Common.{◌≡◌, ◌≢◌, ℕ, ◌-◌, ◌++◌, List, [], ◌∷◌, Option, Some, None, Ok, Err, Result, Bool, true, false, drop, take, length, codes, refl, sym, ap, ◌∙◌, subst, arith, append_assoc}
+use Rattle.std.proofs.Common.{◌≡◌, ℕ, ◌-◌, ◌++◌, List, ◌∷◌, None, Ok, Err, Bool, true, false, drop, take, length, codes, refl, sym, ap, ◌∙◌, subst}
 use Rattle.std.specs.Str.{chars, IsUtf8}
 use Rattle.std.specs.Str.Pattern.{FindsTextPrefix, FindsTextSuffix, StripsPrefix, StripsSuffix}
-use Rattle.std.proofs.lemmas.Str.{chars-append, encodes-chars, encodes-append, encodes_same, IsUtf8-append, IsUtf8-take, IsUtf8-drop}
+use Rattle.std.proofs.lemmas.Str.{chars-append, encodes-chars, encodes-append, IsUtf8-take, IsUtf8-drop}
 use Rattle.icu_list.specs.PatternTexts.{first_item, second_item, is_middle, middle}
 use Rattle.icu_list.specs.declared.error.DataError.TheVariants.{InvalidPattern}
 use Rattle.icu_list.proofs.Reading.{first_characters, second_characters, middle_is, middle_no, middle_shape}
@@ -26,9 +26,9 @@ stripped_back rest between h = h.1.1 ∙ ap (λ x. x ++ codes "{1}") (sym h.2)
 pub middle_found : (text rest between : List ℕ) → text ≡ codes "{0}" ++ rest → rest ≡ between ++ codes "{1}" → IsUtf8 between → middle (chars text) ≡ Ok (chars between)
 middle_found text rest between e f utf8 =
     let shape : chars text ≡ first_item ++ (chars between ++ second_item) =
-      ap chars (e ∙ ap (λ x. codes "{0}" ++ x) f) ∙ chars-append (codes "{0}") (between ++ codes "{1}") first_text
-      ∙ ap (λ x. x ++ chars (between ++ codes "{1}")) first_characters
-      ∙ ap (λ x. first_item ++ x) (chars-append between (codes "{1}") utf8 ∙ ap (λ x. chars between ++ x) second_characters) in
+    ap chars (e ∙ ap (λ x. codes "{0}" ++ x) f) ∙ chars-append (codes "{0}") (between ++ codes "{1}") first_text
+    ∙ ap (λ x. x ++ chars (between ++ codes "{1}")) first_characters
+    ∙ ap (λ x. first_item ++ x) (chars-append between (codes "{1}") utf8 ∙ ap (λ x. chars between ++ x) second_characters) in
     ap middle shape ∙ middle_is (chars between)
 
 -- a middle pattern in bytes

@@ -1,10 +1,10 @@
 -- A pattern as one text and two places.
-use Rattle.std.proofs.Common.{◌≡◌, ℕ, ◌+◌, ◌-◌, ◌≤◌, List, [], ◌++◌, length, take, drop, refl, sym, ap, subst, ◌∙◌, arith, append_assoc, length-append, chars}
+use Rattle.std.proofs.Common.{◌≡◌, ℕ, ◌+◌, ◌-◌, ◌≤◌, List, ◌++◌, length, take, drop, refl, sym, ap, subst, ◌∙◌, arith, append_assoc, length-append, chars}
 use Rattle.std.specs.Str.{IsUtf8, IsCharBoundary}
 use Rattle.std.proofs.lemmas.Str.{encodes-chars, chars-append, IsUtf8-append, IsUtf8-take, IsUtf8-between, IsCharBoundary-at_seam}
 use Rattle.std.proofs.lemmas.List.{take-append-drop, drop-drop}
 use Rattle.std.proofs.Math.Seq.{take-append_seam, drop-append_seam}
-use Rattle.icu_list.specs.Pattern.{IsPlace, Pattern, pattern, pattern_at, texts}
+use Rattle.icu_list.specs.Pattern.{IsPlace, pattern, pattern_at, texts}
 use lib.Utf8.{encodes}
 
 -- the bytes of a text by its characters

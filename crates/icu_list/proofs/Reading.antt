@@ -1,6 +1,6 @@
 -- Reading a pattern by its cuts.
-use Rattle.std.proofs.Common.{◌≡◌, ◌≢◌, ℕ, ◌+◌, ◌-◌, ◌≤◌, ◌<◌, Bool, true, false, ◌||◌, List, [], ◌∷◌, ◌++◌, length, take, drop, Option, Some, None, Ok, Err, Result, refl, sym, ap, ◌∙◌, arith, codes, length-append}
-use Rattle.std.specs.Prelude.{nat_le, nat_eq, ◌&&◌, if◌then◌else◌, IfOk, IfErr}
+use Rattle.std.proofs.Common.{◌≡◌, ℕ, ◌+◌, ◌-◌, ◌≤◌, ◌<◌, Bool, true, false, ◌||◌, List, [], ◌∷◌, ◌++◌, length, take, drop, Some, None, Ok, Err, Result, refl, sym, ap, ◌∙◌, arith, codes, length-append}
+use Rattle.std.specs.Prelude.{nat_le, nat_eq, ◌&&◌, IfOk, IfErr}
 use Rattle.std.specs.Str.{chars, IsUtf8}
 use Rattle.std.proofs.lemmas.Str.{chars-append, IsUtf8-append, encodes-chars, length-le-encodes}
 use lib.Utf8.{encodes}
@@ -9,11 +9,10 @@ use Rattle.std.proofs.lemmas.Slice.Eq.{bytes_eq-Decides}
 use Rattle.std.proofs.Math.Seq.{take-append_seam, drop-append_seam}
 use Rattle.std.proofs.lemmas.List.{length-drop, take-append-drop, drop-drop}
 use Rattle.icu_list.proofs.Cuts.{begins, begun}
-use Rattle.writeable_core.specs.FirstFailure.{first_failure}
 use Rattle.writeable_core.specs.Hint.{byte_length}
 use Rattle.writeable_core.specs.TextLaws.{byte_length-chars}
 use Rattle.icu_list.specs.Pattern.{Pattern, pattern}
-use Rattle.icu_list.specs.PatternTexts.{cut, first_item, second_item, pattern_by, pattern_behind, pattern_of, is_empty, joiner_by, joiner_conditions, unless, most_bytes, joiner, middle, is_middle, IsFaultOf, IsFaultStoring}
+use Rattle.icu_list.specs.PatternTexts.{cut, first_item, second_item, pattern_by, pattern_behind, pattern_of, is_empty, joiner_by, most_bytes, joiner, middle, is_middle, IsFaultOf, IsFaultStoring}
 use Rattle.icu_list.specs.declared.error.DataError.TheVariants.{InvalidPattern, CannotStore, Condition, MissingLocale, NotJsonForm, NoMemory}
 use Rattle.icu_list.specs.declared.error.DataError.{DataError}
 use Rattle.std.proofs.lemmas.Bool.{leb-true, leb-false}
@@ -133,7 +132,7 @@ middle_is m =
     let split : text ≡ (first_item ++ m) ++ second_item = refl in
     let gap : length text - 3 ≡ length (first_item ++ m) = omega arith in
     let back : ends_with nat_eq text second_item ≡ true =
-      (bytes_eq-Decides second_item (drop (length text - 3) text)).1 (sym (ap (λ n. drop n text) gap ∙ drop-append_seam (first_item ++ m) second_item)) in
+    (bytes_eq-Decides second_item (drop (length text - 3) text)).1 (sym (ap (λ n. drop n text) gap ∙ drop-append_seam (first_item ++ m) second_item)) in
     let yes : is_middle text ≡ true = rw (long, front, back) refl in
     let inner : length text - 6 ≡ length m = omega arith in
     middle_yes text yes ∙ ap (λ n. Ok (take n (m ++ second_item))) inner ∙ ap (λ (x : List ℕ). Ok x) (take-append_seam m second_item)

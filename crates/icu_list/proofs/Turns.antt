@@ -1,5 +1,5 @@
 -- The turns of a loop over the items between the first and the last.
-use Rattle.std.proofs.Common.{◌≡◌, ℕ, suc, ◌+◌, ◌<◌, ◌≤◌, Bool, List, [], ◌∷◌, ◌++◌, length, drop, get_or, map, ◌-◌, refl, sym, ap, subst, ◌∙◌, arith, add-one, drop-cons}
+use Rattle.std.proofs.Common.{◌≡◌, ℕ, suc, ◌+◌, ◌<◌, ◌≤◌, Bool, List, [], ◌∷◌, ◌++◌, length, drop, get_or, map, ◌-◌, refl, sym, ap, ◌∙◌, arith, add-one, drop-cons}
 use Rattle.std.specs.Prelude.{◌==◌, Result, Ok, Err, OnOk, OnErr}
 use Rattle.std.proofs.lemmas.List.{length-drop, length-map}
 use Rattle.writeable_core.specs.Marks.{Mark}
@@ -49,7 +49,7 @@ module _ {W : Type 0} (p : Patterns) (text : W → List ℕ) where
       → f ≡ frame_for p b (text last) → whole as_it_is f (text first) (map text inner) (text last) ≡ joined p (map text values)
   all_joined values others inner first last b f e o empty frame =
       let items : map text values ≡ text first ∷ (map text inner ++ text last ∷ []) =
-        ap (map text) e ∙ ap (λ ys. text first ∷ map text ys) o ∙ ap (λ ys. text first ∷ ys) (map-last text inner last) in
+      ap (map text) e ∙ ap (λ ys. text first ∷ map text ys) o ∙ ap (λ ys. text first ∷ ys) (map-last text inner last) in
       let size : b ≡ (length (map text inner) == 0) = empty ∙ ap (λ n. n == 0) (sym (length-map inner text)) in
       ap (λ (g : Frame). whole as_it_is g (text first) (map text inner) (text last)) frame
       ∙ sym (nested_whole as_it_is p (text last) (text first) (text last) (map text inner) b size)
@@ -70,13 +70,13 @@ module _ {W : Type 0} (p : Patterns) (text : W → List ℕ) (marked : W → Lis
       → whole literal f (element (marked first)) (map element (map marked inner)) (element (marked last)) ≡ marked_joined p (map text values) (map marked values)
   all_marked values others inner first last b f e o empty frame =
       let texts : map text values ≡ text first ∷ (map text inner ++ text last ∷ []) =
-        ap (map text) e ∙ ap (λ ys. text first ∷ map text ys) o ∙ ap (λ ys. text first ∷ ys) (map-last text inner last) in
+      ap (map text) e ∙ ap (λ ys. text first ∷ map text ys) o ∙ ap (λ ys. text first ∷ ys) (map-last text inner last) in
       let marks : map marked values ≡ marked first ∷ (map marked inner ++ marked last ∷ []) =
-        ap (map marked) e ∙ ap (λ ys. marked first ∷ map marked ys) o ∙ ap (λ ys. marked first ∷ ys) (map-last marked inner last) in
+      ap (map marked) e ∙ ap (λ ys. marked first ∷ map marked ys) o ∙ ap (λ ys. marked first ∷ ys) (map-last marked inner last) in
       let elements : map element (map marked values) ≡ element (marked first) ∷ (map element (map marked inner) ++ element (marked last) ∷ []) =
-        ap (map element) marks ∙ ap (λ ys. element (marked first) ∷ ys) (map-last element (map marked inner) (marked last)) in
+      ap (map element) marks ∙ ap (λ ys. element (marked first) ∷ ys) (map-last element (map marked inner) (marked last)) in
       let size : b ≡ (length (map element (map marked inner)) == 0) =
-        empty ∙ ap (λ n. n == 0) (sym (length-map (map marked inner) element ∙ length-map inner marked)) in
+      empty ∙ ap (λ n. n == 0) (sym (length-map (map marked inner) element ∙ length-map inner marked)) in
       ap (λ (g : Frame). whole literal g (element (marked first)) (map element (map marked inner)) (element (marked last))) frame
       ∙ sym (nested_whole literal p (text last) (element (marked first)) (element (marked last)) (map element (map marked inner)) b size)
       ∙ ap (λ (l : List ℕ). nested literal p l (element (marked first) ∷ (map element (map marked inner) ++ element (marked last) ∷ []))) (sym (ap last_of texts ∙ last_of-last (map text inner) (text first) (text last)))

@@ -1,9 +1,8 @@
 -- Conditions by their pattern texts. A pattern that is a condition has one expression (proved in proofs/ConditionLaws.antt).
-use Rattle.std.specs.Prelude.{ℕ, ◌-◌, ◌==◌, nat_le, if◌then◌else◌, List, Bool, true, false, length, Option, Some, None, Result, Ok, Err, ◌⊎◌}
+use Rattle.std.specs.Prelude.{ℕ, ◌-◌, ◌==◌, nat_le, if◌then◌else◌, List, Bool, true, false, length, Option, Some, None, Result, Ok, Err}
 use Rattle.std.proofs.Common.{inl, inr}
 use Rattle.lazy_dfa.specs.Expression.{Expression}
 use Rattle.lazy_dfa.specs.Machine.{Machine, IsFor}
-use Rattle.lazy_dfa.specs.Meaning.{holds}
 use Rattle.lazy_dfa.specs.Parsing.{behind, parse, needed, Found, Alternatives}
 use Rattle.lazy_dfa.specs.Refusals.{most_characters}
 use Rattle.lazy_dfa.specs.declared.error.ConditionError.{ConditionError}

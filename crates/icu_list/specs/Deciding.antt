@@ -1,5 +1,5 @@
 -- Whether an expression reads a text is decided: there is a match, or there is none.
-use Rattle.std.specs.Prelude.{slice_get, nat_lt}
+use Rattle.std.specs.Prelude.{slice_get}
 use Rattle.std.proofs.Common.{◌≡◌, ℕ, zero, suc, ◌+◌, ◌≤◌, ◌<◌, Bool, true, false, List, length, Option, Some, None, ◌⊎◌, inl, inr, refl, sym, subst, arith, eqb}
 use Rattle.std.proofs.lemmas.Bool.{eqb-true, eqb-false}
 use Rattle.std.proofs.lemmas.Option.{slice_get_within}
@@ -44,8 +44,8 @@ some_at n P here (inl s) = inl (s.0, omega (arith, s.1), s.2)
 some_at n P (inl p) (inr none) = inl (n, omega arith, p)
 some_at n P (inr non) (inr none) = inr (λ s.
     elim (same s.0 n) [
-      inl e ↦ non (subst P e s.2)
-    | inr ne ↦ none (s.0, omega (arith, s.1, ne), s.2)
+      | inl e ↦ non (subst P e s.2)
+      | inr ne ↦ none (s.0, omega (arith, s.1, ne), s.2)
     ])
 
 -- some number below n

@@ -1,5 +1,5 @@
 -- The formatter of the first row of a kind, a locale and a length.
-use Rattle.std.specs.Prelude.{◌≡◌, List, Option, Some, None, IsSomeAnd, find}
+use Rattle.std.specs.Prelude.{◌≡◌, List, Option, None, IsSomeAnd, find}
 use Rattle.icu_locale_core.specs.Locale.{Locale}
 use Rattle.icu_list.specs.declared.error.DataError.{DataError}
 use Rattle.icu_list.specs.declared.error.DataError.TheVariants.{MissingLocale}

@@ -1,17 +1,17 @@
 -- Laws of joined lists.
-use Rattle.std.specs.Prelude.{nat_le, if◌then◌else◌}
+use Rattle.std.specs.Prelude.{if◌then◌else◌}
 use Rattle.std.specs.List.{fold}
-use Rattle.std.proofs.Common.{◌≡◌, ℕ, zero, suc, ◌+◌, ◌*◌, ◌-◌, ◌≤◌, Bool, true, false, List, [], ◌∷◌, ◌++◌, length, Option, Some, None, map, refl, sym, ap, subst, ◌∙◌, arith, append-nil, append_assoc}
+use Rattle.std.proofs.Common.{◌≡◌, ℕ, ◌+◌, ◌*◌, Bool, true, false, List, [], ◌∷◌, ◌++◌, length, Option, Some, None, map, refl, sym, ap, subst, ◌∙◌, arith}
 use Rattle.std.proofs.lemmas.List.{length-map}
 use Rattle.std.proofs.lemmas.Grind.{common_steps}
 use Rattle.writeable_core.specs.declared.length_hint.LengthHint.{LengthHint}
 use Rattle.writeable_core.specs.Hint.{byte_length, Hinted, exact, hint_sum, hint_times, hint_either, text_hint}
 use Rattle.writeable_core.specs.HintLaws.{Hinted-exact, Hinted-sum, byte_length-append}
-use Rattle.writeable_core.specs.Marks.{Mark, PartName, plain, characters, inside, Nests, nothing}
-use Rattle.writeable_core.specs.MarksLaws.{characters-plain, characters-append, characters-inside, characters-both, Nests-plain, Nests-append, Nests-inside}
+use Rattle.writeable_core.specs.Marks.{Mark, plain, characters, Nests, nothing}
+use Rattle.writeable_core.specs.MarksLaws.{characters-plain, characters-inside, characters-both, Nests-plain, Nests-append, Nests-inside}
 use Rattle.icu_list.specs.Pattern.{Pattern, texts}
-use Rattle.icu_list.specs.Patterns.{Opening, Closing, Ending, SpecialClosing, SpecialPattern, Pair, Patterns, whole, closing_for, pattern_for, end_for, two_by, two_for}
-use Rattle.icu_list.specs.Joined.{last_of, two, start, middle, end, rest, nested, as_it_is, joined, element, element_name, literal, literal_name, marked_joined}
+use Rattle.icu_list.specs.Patterns.{Closing, Ending, SpecialClosing, SpecialPattern, Pair, Patterns, whole, closing_for, pattern_for, end_for, two_by, two_for}
+use Rattle.icu_list.specs.Joined.{last_of, end, rest, nested, as_it_is, joined, element, element_name, literal, literal_name, marked_joined}
 use Rattle.icu_list.specs.ListHint.{pattern_hint, opening_hint, closing_hint, choice_hint, end_hint, pair_hint, patterns_hint, items_hint, list_hint}
 use Rattle.icu_list.specs.Conditions.{applies}
 
@@ -179,7 +179,7 @@ module _ {X : Type 0} (text : X → List ℕ) (hint : X → LengthHint) (hinted 
       let more = rest_bytes p.middle c (text y) z xs in
       let same : length (map hint xs) ≡ length xs = length-map xs hint in
       let middles : Hinted (hint_times (text_hint p.middle) (length (map hint xs))) (byte_length p.middle * length xs) =
-        subst (λ (n : ℕ). Hinted (hint_times (text_hint p.middle) n) (byte_length p.middle * length xs)) (sym same) (Hinted-times (text_hint p.middle) (byte_length p.middle) (length xs) (Hinted-exact (byte_length p.middle))) in
+      subst (λ (n : ℕ). Hinted (hint_times (text_hint p.middle) n) (byte_length p.middle * length xs)) (sym same) (Hinted-times (text_hint p.middle) (byte_length p.middle) (length xs) (Hinted-exact (byte_length p.middle))) in
       together p (x ∷ y ∷ z ∷ xs) ((byte_length (p.start.prefix ++ p.start.between) + byte_length p.middle * length xs) + byte_length (texts (whole c)))
       (byte_length (nested as_it_is p last (map text (x ∷ y ∷ z ∷ xs)))) (omega arith)
       (Hinted-sum (hint_sum (opening_hint p.start) (hint_times (text_hint p.middle) (length (map hint xs)))) (end_hint p.end)

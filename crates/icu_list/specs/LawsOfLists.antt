@@ -1,5 +1,5 @@
 -- Laws that contracts above cite, as statements.
-use Rattle.std.specs.Prelude.{◌≡◌, ◌↔◌, ℕ, ◌<◌, ◌^◌, true, List, None, map}
+use Rattle.std.specs.Prelude.{◌≡◌, ◌↔◌, ℕ, true, List, map}
 use Rattle.lazy_dfa.specs.Expression.{Expression}
 use Rattle.lazy_dfa.specs.Meaning.{holds}
 use Rattle.lazy_dfa.specs.Refusals.{condition}

@@ -8,6 +8,7 @@ pub mod Patterns
 pub mod Joined
 pub mod ListHint
 pub mod PatternsView
+pub mod PatternJson
 pub mod SamePatterns
 pub mod LawsOfLists
 pub mod Specials

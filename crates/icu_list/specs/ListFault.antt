@@ -1,6 +1,6 @@
 -- The patterns that a list's texts are, or their first fault: start, middle, end and pair in this order, then the special
 -- of the end and that of the pair, each condition before its pattern.
-use Rattle.std.specs.Prelude.{◌≡◌, ℕ, Bool, true, false, List, [], ◌∷◌, ◌++◌, Option, Some, None, Result, Ok, Err, if◌then◌else◌}
+use Rattle.std.specs.Prelude.{◌≡◌, ℕ, Bool, true, false, List, [], ◌∷◌, ◌++◌, Option, Some, None, Result, Ok, Err}
 use Rattle.lazy_dfa.specs.Expression.{Expression}
 use Rattle.lazy_dfa.specs.declared.error.ConditionError.{ConditionError}
 use Rattle.writeable_core.specs.Texts.{same_text}
@@ -9,7 +9,7 @@ use Rattle.icu_list.specs.Pattern.{Pattern}
 use Rattle.icu_list.specs.Patterns.{Patterns, opening_of, closing_of, Pair}
 use Rattle.icu_list.specs.PatternTexts.{joiner, middle}
 use Rattle.icu_list.specs.declared.error.DataError.{DataError}
-use Rattle.icu_list.specs.declared.error.DataError.TheVariants.{InvalidPattern, CannotStore, Condition, NoMemory}
+use Rattle.icu_list.specs.declared.error.DataError.TheVariants.{Condition, NoMemory}
 
 pub record SpecialTexts : Type 0 where
   pub condition : List ℕ

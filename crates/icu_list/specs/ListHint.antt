@@ -1,5 +1,5 @@
 -- What is known of a joined list's length before it is written.
-use Rattle.std.specs.Prelude.{ℕ, zero, suc, ◌-◌, List, [], ◌∷◌, ◌++◌, length, Option, Some, None}
+use Rattle.std.specs.Prelude.{ℕ, zero, suc, List, ◌++◌, length, Option, Some, None}
 use Rattle.std.specs.List.{fold}
 use Rattle.writeable_core.specs.declared.length_hint.LengthHint.{LengthHint}
 use Rattle.writeable_core.specs.Hint.{exact, hint_sum, hint_times, hint_either, text_hint}

@@ -1,6 +1,6 @@
 -- The patterns of a list: start, middle, end and pair (UTS 35, List Patterns). The start has nothing behind its second
 -- place, the middle nothing before its first or behind its second, the end nothing before its first.
-use Rattle.std.specs.Prelude.{ℕ, List, [], Bool, Option, Some, None, if◌then◌else◌}
+use Rattle.std.specs.Prelude.{ℕ, List, [], Option, Some, None, if◌then◌else◌}
 use Rattle.icu_list.specs.Conditions.{applies}
 use Rattle.icu_list.specs.Pattern.{Pattern, pattern}
 

@@ -1,8 +1,8 @@
 -- What contracts see of stored patterns.
-use Rattle.std.specs.Prelude.{◌≡◌, ℕ, List, [], Option, Some, None}
+use Rattle.std.specs.Prelude.{ℕ, List, [], Option, Some, None}
 use Rattle.std.specs.Option.{option_map}
 use Rattle.icu_list.specs.Pattern.{Pattern}
-use Rattle.icu_list.specs.Patterns.{Opening, Closing, SpecialClosing, Ending, SpecialPattern, Pair, Patterns, opening_of, closing_of}
+use Rattle.icu_list.specs.Patterns.{SpecialClosing, Ending, SpecialPattern, Pair, Patterns, opening_of, closing_of}
 use Rattle.icu_list.specs.declared.provider.conditional.ConditionalListJoinerPattern.{ConditionalListJoinerPattern}
 use Rattle.icu_list.specs.declared.provider.conditional.SpecialCasePattern.{SpecialCasePattern}
 

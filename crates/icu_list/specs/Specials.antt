@@ -1,7 +1,7 @@
 -- Patterns with a special end or a special pair.
 use Rattle.std.specs.Prelude.{Option, Some, None}
 use Rattle.icu_list.specs.Pattern.{Pattern}
-use Rattle.icu_list.specs.Patterns.{Patterns, Closing, SpecialClosing, Ending, Pair, SpecialPattern, whole}
+use Rattle.icu_list.specs.Patterns.{Patterns, Closing, SpecialClosing, Pair, SpecialPattern, whole}
 
 abbrev pub with_end : Patterns → SpecialClosing → Patterns
 with_end p special = record { start = p.start; middle = p.middle; end = record { default = p.end.default; special = Some special }; pair = p.pair }

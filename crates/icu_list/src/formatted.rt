@@ -120,11 +120,7 @@ fn write_parts_joined<W: Writeable, P: PartsWrite>(
 }
 
 /// Writes a pattern's text, and behind it an item.
-fn write_behind<W: Writeable, S: Sink>(
-    text: &str,
-    value: &W,
-    sink: &mut S,
-) -> Result<(), SinkError>
+fn write_behind<W: Writeable, S: Sink>(text: &str, value: &W, sink: &mut S) -> Result<(), SinkError>
     ensures ok { OnOk result (S.took sink.old (chars text.now ++ W.text value.now) sink.new) }
     ensures err { OnErr result
         (TookPrefix S.took sink.old (chars text.now ++ W.text value.now) sink.new) }

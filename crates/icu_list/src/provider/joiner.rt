@@ -4,10 +4,13 @@ ghost use Rattle.std.specs.Prelude.{◌≡◌, ◌+◌, ◌<◌, ◌≤◌, ◌+
 ghost use Rattle.std.specs.Str.{chars};
 ghost use Rattle.writeable_core.specs.Texts.{same_text};
 ghost use Rattle.writeable_core.specs.Hint.{byte_length, text_hint};
+ghost use Rattle.serde_json.specs.View.{view};
+ghost use Rattle.icu_list.specs.PatternJson.{IsJsonFault, IsOfJson, IsStoredPlace, IsUnplaced};
 ghost use Rattle.icu_list.specs.Pattern.{IsPlace, pattern, pattern_at, texts};
 ghost use Rattle.icu_list.specs.PatternTexts.{IsFaultOf, IsFaultStoring, cut, is_empty, joiner, most_bytes, pattern_of};
 
 use crate::DataError;
+use serde_json::Value;
 use std::alloc::{AllocError, Global};
 use std::marker::Model;
 use writeable_core::{LengthHint, OwnedText};
@@ -71,6 +74,37 @@ impl ListJoinerPattern {
             string,
             index_0: 0,
             index_1,
+        })
+    }
+
+    /// The pattern that a JSON object is: its text in `string`, and in `index_1` where the second
+    /// item stands in it, in bytes. It has no prefix; other members are ignored.
+    pub fn from_json(alloc: Global, value: &Value) -> Result<Self, DataError>
+        ensures ok { IfOk result (IsOfJson (view value.now)) }
+        ensures err { IfErr result (IsJsonFault (view value.now)) }
+    {
+        let Some(string) = value.get("string").and_then(Value::as_str) else {
+            return Err(DataError::NotJsonForm);
+        };
+        let Some(place) = value.get("index_1").and_then(Value::as_u64) else {
+            return Err(DataError::NotJsonForm);
+        };
+        ListJoinerPattern::placed(alloc, string, place)
+    }
+
+    /// The pattern of a text without prefix, in which the second item stands at a place.
+    fn placed(alloc: Global, string: &str, place: u64) -> Result<Self, DataError>
+        ensures ok { IfOk result (λ p. p ≡ pattern_at (chars string.now) 0 place) }
+        ensures place { IfOk result (λ _. IsStoredPlace (chars string.now) place) }
+        ensures err { IfErr result (IsUnplaced (chars string.now) place) }
+    {
+        if place > 255 || !string.is_char_boundary(place as usize) {
+            return Err(DataError::NotJsonForm);
+        }
+        Ok(ListJoinerPattern {
+            string: OwnedText::new(alloc, string)?,
+            index_0: 0,
+            index_1: place as u8,
         })
     }
 
@@ -176,7 +210,7 @@ fn split(text: &str) -> Option<(&str, &str, &str)>
     ensures { MatchOption result
         (pattern_of (chars text.now) ≡ None)
         (λ x. pattern_of (chars text.now)
-            ≡ Some (pattern (chars x.0.now) (chars x.1.now) (chars x.2.now))) }
+        ≡ Some (pattern (chars x.0.now) (chars x.1.now) (chars x.2.now))) }
 {
     let (prefix, rest) = cut(text, "{0}")?;
     if cut(prefix, "{1}").is_some() {

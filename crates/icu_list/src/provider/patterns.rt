@@ -9,7 +9,9 @@ ghost use Rattle.icu_list.specs.PatternTexts.{IsFaultOf, middle};
 
 use crate::DataError;
 use crate::provider::joiner::is_allowed;
-use crate::provider::{ConditionalListJoinerPattern, Joints, ListJoinerPattern, SpecialCasePattern};
+use crate::provider::{
+    ConditionalListJoinerPattern, Joints, ListJoinerPattern, SpecialCasePattern,
+};
 use std::alloc::Global;
 use std::marker::Model;
 use writeable_core::{LengthHint, OwnedText, Writeable};
@@ -44,10 +46,15 @@ impl ListFormatterPatterns {
 
     /// The lengths' names in tables.
     pub const NARROW: &'static str = "N";
+
     pub const SHORT: &'static str = "S";
+
     pub const WIDE: &'static str = "W";
+
     pub const NARROW_STR: &'static str = "N";
+
     pub const SHORT_STR: &'static str = "S";
+
     pub const WIDE_STR: &'static str = "W";
 
     /// The patterns that four texts are.

@@ -65,7 +65,7 @@ impl SerdeDFA {
     pub fn to_json(&self, alloc: Global) -> Result<Value, AllocError>
         ensures { IfOk result (λ value. view value ≡ string (encode_utf8_all self.now)) }
     {
-        Ok(Value::String(String::from_str(alloc, self.pattern.as_str())?))
+        json_text(alloc, self.pattern.as_str())
     }
 
     /// Whether the condition holds on a text. The text is written no further than where that is
@@ -85,6 +85,13 @@ fn lifted(error: ConditionError) -> DataError
         ConditionError::NoMemory => DataError::NoMemory,
         error => DataError::Condition(error),
     }
+}
+
+/// A text as a JSON string.
+fn json_text(alloc: Global, text: &str) -> Result<Value, AllocError>
+    ensures { IfOk result (λ value. view value ≡ string text.now) }
+{
+    Ok(Value::String(String::from_str(alloc, text)?))
 }
 
 /// Conditions are equal where their patterns' texts are.

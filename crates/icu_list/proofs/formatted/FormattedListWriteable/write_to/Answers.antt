@@ -1,7 +1,6 @@
-use Rattle.std.proofs.Common.{◌≡◌, List, ℕ, map, sym, subst, OnOk, OnErr}
+use Rattle.std.proofs.Common.{List, ℕ, subst, OnOk, OnErr}
 use Rattle.writeable_core.specs.Sink.{TookPrefix}
-use Rattle.icu_list.specs.Frames.{frame_of, whole}
-use Rattle.icu_list.specs.Joined.{as_it_is, joined}
+use Rattle.icu_list.specs.Frames.{frame_of}
 use Rattle.icu_list.proofs.Turns.{all_joined}
 use Rattle.icu_list.proofs.formatted.FormattedListWriteable.write_to.Goals as goal
 

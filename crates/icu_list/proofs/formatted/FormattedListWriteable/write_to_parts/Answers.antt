@@ -1,8 +1,7 @@
-use Rattle.std.proofs.Common.{◌≡◌, List, ℕ, [], map, sym, subst, OnOk, OnErr}
+use Rattle.std.proofs.Common.{List, [], subst, OnOk, OnErr}
 use Rattle.writeable_core.specs.Marks.{Mark}
 use Rattle.writeable_core.specs.Sink.{TookPrefix}
-use Rattle.icu_list.specs.Frames.{frame_of, whole}
-use Rattle.icu_list.specs.Joined.{literal, marked_joined}
+use Rattle.icu_list.specs.Frames.{frame_of}
 use Rattle.icu_list.proofs.Turns.{none_marked, all_marked}
 use Rattle.icu_list.proofs.formatted.FormattedListWriteable.write_to_parts.Goals as goal
 

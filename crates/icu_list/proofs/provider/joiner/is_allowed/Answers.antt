@@ -1,4 +1,4 @@
-use Rattle.std.proofs.Common.{arith, chars, rules, sym, ◌∙◌, length, refl}
+use Rattle.std.proofs.Common.{arith, sym, ◌∙◌, length}
 use Rattle.std.proofs.lemmas.Bool.{eqb-true, eqb-false}
 use Rattle.icu_list.proofs.Reading.{is_empty-chars}
 use Rattle.icu_list.proofs.provider.joiner.is_allowed.Goals as goal

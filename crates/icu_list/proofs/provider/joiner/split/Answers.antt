@@ -1,9 +1,8 @@
-use Rattle.std.proofs.Common.{◌≡◌, List, ℕ, Option, Some, None, chars, refl, ap, sym, ◌∙◌, rules}
+use Rattle.std.proofs.Common.{◌≡◌, List, ℕ, Option, Some, None, chars, rules}
 use Rattle.std.specs.Borrow.{Bor}
 use Rattle.std.specs.Prelude.{MatchOption, is_some, codes, true, false}
-use Rattle.icu_list.specs.Pattern.{pattern}
-use Rattle.icu_list.specs.PatternTexts.{cut, first_item, second_item, pattern_by, pattern_behind, pattern_of}
-use Rattle.icu_list.proofs.Reading.{first_characters, second_characters, no_first, early_second, no_second, all_parts}
+use Rattle.icu_list.specs.PatternTexts.{cut, pattern_of}
+use Rattle.icu_list.proofs.Reading.{no_first, early_second, no_second, all_parts}
 use Rattle.icu_list.proofs.provider.joiner.split.Goals as goal
 
 pub returns-in_err-prefix : goal.returns-in_err-prefix
@@ -31,8 +30,8 @@ returns-then-is_some c =
 pub returns-in_err-between : goal.returns-in_err-between
 returns-in_err-between c =
     let none = no_second (chars c.args.text.now) (chars c.in_ok-prefix.prefix.now) (chars c.in_ok-prefix.rest.now)
-      (rw (c.in_ok-prefix.prefix-is, c.in_ok-prefix.rest-is) at c.in_ok-prefix.ensures)
-      (none_early (chars c.in_ok-prefix.prefix.now) c.cut-2.result c.cut-2.ensures (search rules)) c.in_err-between.ensures in
+    (rw (c.in_ok-prefix.prefix-is, c.in_ok-prefix.rest-is) at c.in_ok-prefix.ensures)
+    (none_early (chars c.in_ok-prefix.prefix.now) c.cut-2.result c.cut-2.ensures (search rules)) c.in_err-between.ensures in
     search rules
 
 pub returns : goal.returns

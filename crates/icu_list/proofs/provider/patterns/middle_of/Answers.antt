@@ -1,8 +1,4 @@
-use Rattle.std.proofs.Common.{◌≡◌, ℕ, ◌++◌, List, Option, Some, None, Ok, Err, Result, Bool, true, false, drop, length, chars, codes, refl, sym, ap, ◌∙◌, subst}
-use Rattle.std.specs.Borrow.{Bor}
-use Rattle.std.specs.Prelude.{MatchOption}
-use Rattle.std.specs.Str.{IsUtf8}
-use Rattle.std.specs.Str.Pattern.{FindsTextPrefix, FindsTextSuffix, StripsPrefix, StripsSuffix}
+use Rattle.std.proofs.Common.{ℕ, List, Ok, sym, ap, ◌∙◌}
 use Rattle.icu_list.proofs.MiddleText.{middle_found, lacks_front, lacks_back, stripped_front, stripped_back, utf8_rest, utf8_between}
 use Rattle.icu_list.proofs.provider.patterns.middle_of.Goals as goal
 
@@ -20,6 +16,6 @@ returns-clause-ok c =
     (stripped_front c.args.text.now c.in-Some.rest.now (rw c.in-Some.rest-is at c.in-Some.ensures.cases))
     (stripped_back c.in-Some.rest.now c.in-Some-strip_suffix.between.now (rw c.in-Some-strip_suffix.between-is at c.in-Some-strip_suffix.ensures.cases))
     (utf8_between c.in-Some.rest.now c.in-Some-strip_suffix.between.now
-      (utf8_rest c.args.text.now c.in-Some.rest.now c.utf8.text (rw c.in-Some.rest-is at c.in-Some.ensures.cases))
-      (rw c.in-Some-strip_suffix.between-is at c.in-Some-strip_suffix.ensures.cases))
+    (utf8_rest c.args.text.now c.in-Some.rest.now c.utf8.text (rw c.in-Some.rest-is at c.in-Some.ensures.cases))
+    (rw c.in-Some-strip_suffix.between-is at c.in-Some-strip_suffix.ensures.cases))
     ∙ ap (λ (m : List ℕ). Ok m) (sym c.in_ok-new.ensures.ok)

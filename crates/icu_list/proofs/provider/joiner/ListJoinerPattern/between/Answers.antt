@@ -1,6 +1,6 @@
-use Rattle.std.proofs.Common.{List, ℕ, ap, sym, ◌∙◌, take, chars, rules}
+use Rattle.std.proofs.Common.{ap, ◌∙◌, chars}
 use Rattle.icu_list.specs.Pattern.{Pattern}
-use Rattle.icu_list.proofs.Places.{bytes_of, place_in, between_is}
+use Rattle.icu_list.proofs.Places.{place_in, between_is}
 use Rattle.icu_list.proofs.provider.joiner.ListJoinerPattern.between.Goals as goal
 
 pub range-requires-clause-start_boundary : goal.range-requires-clause-start_boundary

@@ -1,4 +1,4 @@
-use Rattle.std.proofs.Common.{List, ℕ, ap, sym, ◌∙◌, chars}
+use Rattle.std.proofs.Common.{ap, sym, ◌∙◌}
 use Rattle.writeable_core.specs.Hint.{text_hint}
 use Rattle.icu_list.specs.Pattern.{Pattern, texts}
 use Rattle.icu_list.proofs.Places.{texts_are}

@@ -1,6 +1,6 @@
-use Rattle.std.proofs.Common.{◌≡◌, arith, List, ℕ, ap, sym, ◌∙◌, take, chars, rules}
+use Rattle.std.proofs.Common.{◌≡◌, arith, ap, ◌∙◌, take, chars}
 use Rattle.icu_list.specs.Pattern.{Pattern}
-use Rattle.icu_list.proofs.Places.{bytes_of, place_in, prefix_is}
+use Rattle.icu_list.proofs.Places.{place_in, prefix_is}
 use Rattle.icu_list.proofs.provider.joiner.ListJoinerPattern.prefix.Goals as goal
 
 pub range-requires-clause-end_boundary : goal.range-requires-clause-end_boundary

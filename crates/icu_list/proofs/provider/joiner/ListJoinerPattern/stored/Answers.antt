@@ -1,4 +1,4 @@
-use Rattle.std.proofs.Common.{◌≡◌, ◌+◌, List, ℕ, ap, sym, ◌∙◌, ◌++◌, chars, rules, arith, length, string_bytes, append_assoc}
+use Rattle.std.proofs.Common.{◌≡◌, ◌+◌, ap, ◌∙◌, arith, length}
 use Rattle.std.proofs.lemmas.Grind.{common_steps}
 use Rattle.writeable_core.specs.TextLaws.{encodes-chars_of}
 use Rattle.icu_list.proofs.Reading.{bytes_before}

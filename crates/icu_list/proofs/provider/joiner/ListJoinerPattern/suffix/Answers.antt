@@ -1,6 +1,6 @@
-use Rattle.std.proofs.Common.{List, ℕ, ap, sym, ◌∙◌, take, chars, rules}
+use Rattle.std.proofs.Common.{ap, ◌∙◌, chars}
 use Rattle.icu_list.specs.Pattern.{Pattern}
-use Rattle.icu_list.proofs.Places.{bytes_of, place_in, suffix_is}
+use Rattle.icu_list.proofs.Places.{place_in, suffix_is}
 use Rattle.icu_list.proofs.provider.joiner.ListJoinerPattern.suffix.Goals as goal
 
 pub range_from-requires : goal.range_from-requires

@@ -1,4 +1,4 @@
-use Rattle.std.proofs.Common.{◌≡◌, ◌+◌, ◌∙◌, List, ℕ, sym, chars, rules, length}
+use Rattle.std.proofs.Common.{◌+◌, ◌∙◌, sym, chars, length}
 use Rattle.icu_list.specs.Pattern.{pattern}
 use Rattle.icu_list.proofs.Reading.{read_ok, read_err}
 use Rattle.icu_list.proofs.provider.joiner.ListJoinerPattern.try_from_str.Goals as goal

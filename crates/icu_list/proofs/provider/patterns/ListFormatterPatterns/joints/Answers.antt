@@ -1,9 +1,8 @@
-use Rattle.std.proofs.Common.{◌≡◌, List, ℕ, ap, sym, ◌∙◌, chars, rules}
+use Rattle.std.proofs.Common.{◌≡◌, ap, ◌∙◌, chars, rules}
 use Rattle.std.specs.Prelude.{unwrap_or}
-use Rattle.icu_list.specs.Pattern.{Pattern}
 use Rattle.icu_list.specs.Patterns.{Patterns, two_for}
 use Rattle.icu_list.specs.Choices.{chosen}
-use Rattle.icu_list.specs.Frames.{frame_two, frame_for}
+use Rattle.icu_list.specs.Frames.{frame_two}
 use Rattle.icu_list.proofs.Making.{two_chosen, frame_is}
 use Rattle.icu_list.proofs.provider.patterns.ListFormatterPatterns.joints.Goals as goal
 

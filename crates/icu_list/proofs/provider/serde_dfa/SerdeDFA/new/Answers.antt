@@ -1,4 +1,4 @@
-use Rattle.std.proofs.Common.{◌≡◌, List, ℕ, ap, ◌∙◌, subst, sym, Ok, Result, IfOk, chars, rules}
+use Rattle.std.proofs.Common.{◌≡◌, List, ℕ, subst, sym, Ok, Result, IfOk, chars, rules}
 use Rattle.lazy_dfa.specs.Expression.{Expression}
 use Rattle.lazy_dfa.specs.Machine.{Machine, IsFor}
 use Rattle.lazy_dfa.specs.Refusals.{condition}
