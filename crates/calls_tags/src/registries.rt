@@ -16,7 +16,10 @@ use std::alloc::{AllocError, Global};
 const TABLES: [(&str, RegistryTable); 13] = [
     ("Languages", RegistryTable::Languages),
     ("LanguagesPreferred", RegistryTable::LanguagesPreferred),
-    ("LanguagesSuppressScript", RegistryTable::LanguagesSuppressScript),
+    (
+        "LanguagesSuppressScript",
+        RegistryTable::LanguagesSuppressScript,
+    ),
     ("Extlangs", RegistryTable::Extlangs),
     ("ExtlangsPreferred", RegistryTable::ExtlangsPreferred),
     ("Scripts", RegistryTable::Scripts),
@@ -25,7 +28,10 @@ const TABLES: [(&str, RegistryTable); 13] = [
     ("RegionsPreferred", RegistryTable::RegionsPreferred),
     ("Variants", RegistryTable::Variants),
     ("VariantsPreferred", RegistryTable::VariantsPreferred),
-    ("GrandfatheredsPreferred", RegistryTable::GrandfatheredsPreferred),
+    (
+        "GrandfatheredsPreferred",
+        RegistryTable::GrandfatheredsPreferred,
+    ),
     ("RedundantsPreferred", RegistryTable::RedundantsPreferred),
 ];
 
