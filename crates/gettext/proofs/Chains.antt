@@ -4,11 +4,11 @@ use Rattle.std.specs.Result.{MatchResult}
 use Rattle.std.proofs.lemmas.Bool.{lt-ltb, le-ltb}
 use Rattle.gettext.specs.declared.error.Error.{Error}
 use Rattle.gettext.specs.declared.error.Error.TheVariants.{NoMemory, PluralParsing}
-use Rattle.gettext.specs.declared.expression.Operator.{Operator}
-use Rattle.gettext.specs.declared.expression.tokens.Token.{Token}
-use Rattle.gettext.specs.declared.expression.grammar.Level.{Level}
-use Rattle.gettext.specs.declared.expression.grammar.Level.TheVariants as level
-use Rattle.gettext.specs.declared.expression.grammar.Part.{Part}
+use Rattle.gettext.specs.declared.plurals.expression.Operator.{Operator}
+use Rattle.gettext.specs.declared.plurals.tokens.Token.{Token}
+use Rattle.gettext.specs.declared.plurals.grammar.Level.{Level}
+use Rattle.gettext.specs.declared.plurals.grammar.Level.TheVariants as level
+use Rattle.gettext.specs.declared.plurals.grammar.Part.{Part}
 use Rattle.gettext.specs.Optional.{◌>>=◌}
 use Rattle.gettext.specs.Grammar.{tighter}
 use Rattle.gettext.specs.Parsing.{Found, found_of, parse, at_level, atom_or, leaf_at, after_open, after_close, after_bang, after_question, after_colon, unary_or, operator_at, more, choice_at, closed, negated, joined, chosen, IsBinary, IsParsed}

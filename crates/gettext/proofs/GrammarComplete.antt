@@ -1,12 +1,12 @@
 -- Reading by levels finds each part of the grammar.
 use Rattle.std.proofs.Common.{◌≡◌, ◌≢◌, ℕ, zero, suc, ◌+◌, ◌≤◌, ◌<◌, max, Bool, false, leb, eqb, List, [], ◌∷◌, ◌++◌, Option, Some, None, refl, sym, ap, subst, ◌∙◌, arith, append_assoc}
 use Rattle.std.proofs.lemmas.Bool.{lt-ltb, lt-leb, leb-false, eq-eqb, ne_eqb}
-use Rattle.gettext.specs.declared.expression.Operator.{Operator}
-use Rattle.gettext.specs.declared.expression.Operator.TheVariants as operator
-use Rattle.gettext.specs.declared.expression.tokens.Token.{Token}
-use Rattle.gettext.specs.declared.expression.tokens.Token.TheVariants as token
-use Rattle.gettext.specs.declared.expression.grammar.Level.{Level}
-use Rattle.gettext.specs.declared.expression.grammar.Level.TheVariants as level
+use Rattle.gettext.specs.declared.plurals.expression.Operator.{Operator}
+use Rattle.gettext.specs.declared.plurals.expression.Operator.TheVariants as operator
+use Rattle.gettext.specs.declared.plurals.tokens.Token.{Token}
+use Rattle.gettext.specs.declared.plurals.tokens.Token.TheVariants as token
+use Rattle.gettext.specs.declared.plurals.grammar.Level.{Level}
+use Rattle.gettext.specs.declared.plurals.grammar.Level.TheVariants as level
 use Rattle.gettext.specs.Optional.{◌>>=◌}
 use Rattle.gettext.specs.Expression.{Expression, Binary}
 use Rattle.gettext.specs.Grammar.{rank, tighter, level_of, IsPart, name, numeral, parentheses, negation, binary, conditional, looser}

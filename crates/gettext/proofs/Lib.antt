@@ -10,7 +10,7 @@ pub mod GrammarComplete
 pub mod Expressions
 pub mod Pieces
 pub mod Bounds
-pub mod Reading
+pub mod PushedRows
 pub mod Encodings
 pub mod Collecting
 pub mod MetadataFields
@@ -27,5 +27,5 @@ pub mod Files
 pub mod FileRows
 pub mod Forms
 pub mod Faults
-pub mod SourceReading
+pub mod SourceBytes
 pub mod Alike

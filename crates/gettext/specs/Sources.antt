@@ -4,7 +4,7 @@ pub use Rattle.reading.specs.Reading.{most_bytes}
 use Rattle.gettext.specs.declared.error.Error.{Error}
 use Rattle.gettext.specs.declared.error.Error.TheVariants.{Io, TooLong, NoMemory}
 use Rattle.gettext.specs.Options.{Options}
-use Rattle.gettext.specs.Mo.{mo_fault}
+use Rattle.gettext.specs.Faults.{mo_fault}
 
 -- what is wrong with the bytes of a source: they are too many, or no file
 abbrev pub source_fault : List ℕ → Options → Option Error

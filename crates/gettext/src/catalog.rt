@@ -1,6 +1,10 @@
 //! Catalogs of messages, and the look-up of a message's form.
+//!
+//! - `table`: how a catalog keeps its messages.
 
-ghost use Rattle.std.specs.Prelude.{◌≡◌, ℕ, ◌==◌, ◌⊎◌, ◌↔◌, ◌≤◌, List, [], length, true, Option, Some, None, Result, IfOk, IfErr, IfSome, MatchResult, IsErrAnd, IsErrOf, if◌then◌else◌};
+mod table;
+
+ghost use Rattle.std.specs.Prelude.{◌≡◌, ℕ, ◌==◌, ◌⊎◌, ◌↔◌, ◌≤◌, List, [], length, Option, Some, None, Result, IfOk, IfErr, IfSome, MatchResult, IsErrAnd, IsErrOf, if◌then◌else◌};
 ghost use Rattle.std.specs.Option.{option_map};
 ghost use Rattle.std.specs.Str.{chars};
 ghost use Rattle.reading.specs.Reading.{IsReadToEnd};
@@ -8,16 +12,17 @@ ghost use Rattle.gettext.specs.declared.error.Error.{Error};
 ghost use Rattle.gettext.specs.declared.error.Error.TheVariants.{Io, NoMemory, TooLong};
 ghost use Rattle.writeable_core.specs.Sink.{Rose};
 ghost use Rattle.gettext.specs.Messages.{Messages, StandsFor, Default, key_of, numbered, numbered_within, form, count_of_forms, own_words, text_or};
-ghost use Rattle.gettext.specs.Mo.{IsInUtf8, IsMoFault, entries, mo_fault};
+ghost use Rattle.gettext.specs.Mo.{IsInUtf8, entries};
+ghost use Rattle.gettext.specs.Faults.{IsMoFault, mo_fault};
 ghost use Rattle.gettext.specs.Options.{Options, plain_options};
 ghost use Rattle.gettext.specs.Sources.{ComesAtEnd, IsReadFault, most_bytes, source_fault};
 ghost use Rattle.gettext.specs.Table.{IsRangeOf, messages_of};
 
 use crate::error::Error;
-use crate::parse_options::ParseOptions;
-use crate::resolver::{FileRule, PluralFunction};
-use crate::table::Table;
+use crate::parser::ParseOptions;
+use crate::plurals::{FileRule, PluralFunction};
 use std::alloc::Global;
+pub use table::Table;
 use writeable_core::Source;
 
 /// The messages of one language, as an MO file holds them.

@@ -2,8 +2,8 @@
 
 ghost use Rattle.std.specs.Prelude.{◌≡◌};
 ghost use Rattle.gettext.specs.declared.error.Error.TheVariants.{NoMemory};
-ghost use Rattle.gettext.specs.ReadErrors.{error_of};
-ghost use Rattle.gettext.specs.Fault.{words_of};
+ghost use Rattle.gettext.specs.Errors.{error_of};
+ghost use Rattle.gettext.specs.Errors.{words_of};
 
 use reading::ReadError;
 use std::alloc::{AllocError, AllocFailed};

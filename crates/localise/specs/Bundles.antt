@@ -2,7 +2,8 @@
 use Rattle.std.specs.Prelude.{◌≡◌, ℕ, suc, List, [], ◌∷◌, Option, Some, None}
 use Rattle.gettext.specs.declared.error.Error.{Error}
 use Rattle.gettext.specs.Messages.{form}
-use Rattle.gettext.specs.Mo.{entries, mo_fault}
+use Rattle.gettext.specs.Mo.{entries}
+use Rattle.gettext.specs.Faults.{mo_fault}
 use Rattle.gettext.specs.Options.{plain_options}
 use Rattle.localise.specs.Meaning.{Meaning}
 use Rattle.localise.specs.declared.bundle.BundleText.{BundleText}
