@@ -20,6 +20,7 @@ pub mod MetadataCuts
 pub mod DecodedRows
 pub mod MetadataSettings
 pub mod Ids
+pub mod KeyParts
 pub mod FirstRow
 pub mod ExpressionOf
 pub mod Meaning
@@ -27,5 +28,5 @@ pub mod Files
 pub mod FileRows
 pub mod Forms
 pub mod Faults
-pub mod SourceBytes
+pub mod Parsed
 pub mod Alike

@@ -11,10 +11,11 @@ pub mod Messages
 pub mod Rule
 pub mod Layout
 pub mod Mo
+pub mod MoLaws
 pub mod Faults
 pub mod Settings
 pub mod Table
 pub mod Reader
 pub mod Decoding
 pub mod Files
-pub mod Sources
+pub mod Parse

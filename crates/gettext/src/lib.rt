@@ -33,4 +33,6 @@ pub use encoding::Encoding;
 pub use error::Error;
 pub use metadata::{MetadataMap, parse_metadata};
 pub use parser::ParseOptions;
-pub use plurals::{Ast, FileRule, Operator, PluralFunction, Resolver, default_resolver, one_tree};
+pub use plurals::{
+    Ast, FileRule, FormRule, Operator, PluralFunction, Resolver, default_resolver, one_tree,
+};

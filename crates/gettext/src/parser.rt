@@ -16,22 +16,16 @@ mod rows;
 mod settings;
 mod sorting;
 
-ghost use Rattle.std.specs.Prelude.{◌≡◌, ℕ, ◌<◌, ◌≤◌, ◌^◌, ◌⊎◌, length, true, false, Some, None, Option, IfOk, IfErr, IfSome, IsErrAnd, IsErrOf, MatchResult};
-ghost use Rattle.reading.specs.Reading.{IsReadToEnd};
+ghost use Rattle.std.specs.Prelude.{◌≡◌, ℕ, ◌<◌, ◌^◌, Some, None, Option, IfOk};
 ghost use Rattle.gettext.specs.declared.error.Error.{Error};
-ghost use Rattle.gettext.specs.declared.error.Error.TheVariants.{Io, NoMemory, TooLong};
-ghost use Rattle.writeable_core.specs.Sink.{Rose};
-ghost use Rattle.gettext.specs.Messages.{Messages, StandsFor};
-ghost use Rattle.gettext.specs.Mo.{IsInUtf8, entries};
-ghost use Rattle.gettext.specs.Faults.{mo_fault};
+ghost use Rattle.gettext.specs.Mo.{entries};
 ghost use Rattle.gettext.specs.Options.{options_of};
-ghost use Rattle.gettext.specs.Sources.{ComesAtEnd, IsReadFault, most_bytes, source_fault};
-ghost use Rattle.gettext.specs.Table.{messages_of};
+ghost use Rattle.gettext.specs.Parse.{ParsesBytes, ParsesSource};
 
 use crate::catalog::Catalog;
 use crate::encoding::Encoding;
 use crate::error::Error;
-use crate::plurals::{FileRule, PluralFunction};
+use crate::plurals::{FileRule, FormRule, PluralFunction};
 use options::Options;
 use reader::{table_of_bytes, table_of_source};
 use std::alloc::Global;
@@ -81,134 +75,42 @@ impl ParseOptions {
             plural: FileRule,
         }
     }
-
-    /// As [`Catalog::parse`].
-    pub fn parse<S: Source>(self, alloc: Global, source: &mut S) -> Result<Catalog, Error>
-        ensures sound { IfOk result (λ catalog. IfSome (S.left source.old)
-            (λ bytes. (length bytes ≤ most_bytes)
-            × (c : Messages) × entries bytes (options_of self.encoding false) c
-            × StandsFor (messages_of catalog.entries) c)) }
-        ensures read_to_end { IfErr result ComesAtEnd
-            → IsReadToEnd S.left S.ended S.faults source.old source.new }
-        ensures no_fault { IsErrOf result TooLong → S.faults source.new ≡ S.faults source.old }
-        ensures exact { IfSome (S.left source.old)
-            (λ bytes. MatchResult result
-            (λ _. source_fault bytes (options_of self.encoding false) ≡ None)
-            (λ e. IsReadFault e ⊎ (source_fault bytes (options_of self.encoding false) ≡ Some e))) }
-        ensures io { IfErr result (λ e. e ≡ Io → Rose (S.faults source.old) (S.faults source.new)) }
-        ensures ok { IfSome (S.left source.old)
-            (λ bytes. (c : Messages) → length bytes ≤ most_bytes
-            → entries bytes (options_of self.encoding false) c
-            → MatchResult result
-            (λ catalog. StandsFor (messages_of catalog.entries) c) IsReadFault) }
-        ensures later { S.faults source.old ≤ S.faults source.new }
-        ensures buffer { IfOk result (λ catalog. IfSome (S.left source.old)
-            (λ bytes. IsInUtf8 bytes (options_of self.encoding false)
-            → catalog.entries.buffer ≡ bytes)) }
-    {
-        let options = Options {
-            encoding: self.encoding,
-            forced: false,
-        };
-        Ok(Catalog {
-            entries: table_of_source(alloc, source, options)?,
-            plural: FileRule,
-        })
-    }
-
-    /// As [`Catalog::parse_bytes`].
-    pub fn parse_bytes(self, alloc: Global, bytes: &[u8]) -> Result<Catalog, Error>
-        ensures ok { (c : Messages) → entries bytes.now (options_of self.encoding false) c
-            → MatchResult result (λ catalog. StandsFor (messages_of catalog.entries) c)
-            (λ e. e ≡ NoMemory) }
-        ensures err { (fault : Error) → mo_fault bytes.now (options_of self.encoding false)
-            ≡ Some fault
-            → IsErrAnd result (λ e. (e ≡ NoMemory) ⊎ (e ≡ fault)) }
-        ensures sound { IfOk result (λ catalog. (c : Messages)
-            × entries bytes.now (options_of self.encoding false) c
-            × StandsFor (messages_of catalog.entries) c) }
-        ensures cause { MatchResult result
-            (λ _. mo_fault bytes.now (options_of self.encoding false) ≡ None)
-            (λ e. (e ≡ NoMemory) ⊎ (mo_fault bytes.now (options_of self.encoding false) ≡ Some e)) }
-        ensures buffer { IfOk result (λ catalog. IsInUtf8 bytes.now (options_of self.encoding false)
-            → catalog.entries.buffer ≡ bytes.now) }
-    {
-        let options = Options {
-            encoding: self.encoding,
-            forced: false,
-        };
-        Ok(Catalog {
-            entries: table_of_bytes(alloc, bytes, options)?,
-            plural: FileRule,
-        })
-    }
 }
 
-impl ParseOptions<PluralFunction> {
+impl<P: FormRule> ParseOptions<P> {
     /// As [`Catalog::parse`].
-    pub fn parse<S: Source>(
-        self,
-        alloc: Global,
-        source: &mut S,
-    ) -> Result<Catalog<PluralFunction>, Error>
-        ensures sound { IfOk result (λ catalog. IfSome (S.left source.old)
-            (λ bytes. (length bytes ≤ most_bytes)
-            × (c : Messages) × entries bytes (options_of self.encoding true) c
-            × StandsFor (messages_of catalog.entries) c)) }
-        ensures read_to_end { IfErr result ComesAtEnd
-            → IsReadToEnd S.left S.ended S.faults source.old source.new }
-        ensures no_fault { IsErrOf result TooLong → S.faults source.new ≡ S.faults source.old }
-        ensures exact { IfSome (S.left source.old)
-            (λ bytes. MatchResult result
-            (λ _. source_fault bytes (options_of self.encoding true) ≡ None)
-            (λ e. IsReadFault e ⊎ (source_fault bytes (options_of self.encoding true) ≡ Some e))) }
-        ensures io { IfErr result (λ e. e ≡ Io → Rose (S.faults source.old) (S.faults source.new)) }
-        ensures ok { IfSome (S.left source.old)
-            (λ bytes. (c : Messages) → length bytes ≤ most_bytes
-            → entries bytes (options_of self.encoding true) c
-            → MatchResult result
-            (λ catalog. StandsFor (messages_of catalog.entries) c) IsReadFault) }
-        ensures later { S.faults source.old ≤ S.faults source.new }
-        ensures buffer { IfOk result (λ catalog. IfSome (S.left source.old)
-            (λ bytes. IsInUtf8 bytes (options_of self.encoding true)
-            → catalog.entries.buffer ≡ bytes)) }
+    pub fn parse<S: Source>(self, alloc: Global, source: &mut S) -> Result<Catalog<P>, Error>
+        ensures read { ParsesSource S.left S.ended S.faults source.old source.new
+            result (λ catalog. catalog.entries) (options_of self.encoding P.forced) }
         ensures plural { IfOk result (λ catalog. catalog.plural ≡ self.plural) }
     {
-        let options = Options {
-            encoding: self.encoding,
-            forced: true,
-        };
+        let entries = table_of_source(alloc, source, self.options())?;
         Ok(Catalog {
-            entries: table_of_source(alloc, source, options)?,
+            entries,
             plural: self.plural,
         })
     }
 
     /// As [`Catalog::parse_bytes`].
-    pub fn parse_bytes(self, alloc: Global, bytes: &[u8]) -> Result<Catalog<PluralFunction>, Error>
-        ensures ok { (c : Messages) → entries bytes.now (options_of self.encoding true) c
-            → MatchResult result (λ catalog. StandsFor (messages_of catalog.entries) c)
-            (λ e. e ≡ NoMemory) }
-        ensures err { (fault : Error) → mo_fault bytes.now (options_of self.encoding true)
-            ≡ Some fault
-            → IsErrAnd result (λ e. (e ≡ NoMemory) ⊎ (e ≡ fault)) }
-        ensures sound { IfOk result (λ catalog. (c : Messages)
-            × entries bytes.now (options_of self.encoding true) c
-            × StandsFor (messages_of catalog.entries) c) }
-        ensures cause { MatchResult result
-            (λ _. mo_fault bytes.now (options_of self.encoding true) ≡ None)
-            (λ e. (e ≡ NoMemory) ⊎ (mo_fault bytes.now (options_of self.encoding true) ≡ Some e)) }
-        ensures buffer { IfOk result (λ catalog. IsInUtf8 bytes.now (options_of self.encoding true)
-            → catalog.entries.buffer ≡ bytes.now) }
+    pub fn parse_bytes(self, alloc: Global, bytes: &[u8]) -> Result<Catalog<P>, Error>
+        ensures read { ParsesBytes result (λ catalog. catalog.entries) bytes.now
+            (options_of self.encoding P.forced) }
         ensures plural { IfOk result (λ catalog. catalog.plural ≡ self.plural) }
     {
-        let options = Options {
-            encoding: self.encoding,
-            forced: true,
-        };
+        let entries = table_of_bytes(alloc, bytes, self.options())?;
         Ok(Catalog {
-            entries: table_of_bytes(alloc, bytes, options)?,
+            entries,
             plural: self.plural,
         })
+    }
+
+    /// What the reader is told: of a function that is forced, only that there is one.
+    fn options(&self) -> Options
+        ensures { result ≡ options_of self.now.encoding P.forced }
+    {
+        Options {
+            encoding: self.encoding,
+            forced: self.plural.is_forced(),
+        }
     }
 }

@@ -13,5 +13,5 @@ mod rule;
 mod tokens;
 
 pub use expression::{Ast, Operator, one_tree};
-pub use resolver::{FileRule, PluralFunction, Resolver, default_resolver};
+pub use resolver::{FileRule, FormRule, PluralFunction, Resolver, default_resolver};
 pub use rule::PluralRule;

@@ -32,7 +32,8 @@ pub fn bytes_of(buffer: &[u8], span: Span) -> &[u8]
 pub fn nth_piece(text: &[u8], number: usize) -> Option<&[u8]>
     ensures { option_map (λ piece. piece.now) result ≡ slice_get (pieces_of text.now) number }
 {
-    text.split(|byte| *byte == 0).nth(number)
+    let (start, end) = nth_span(text, number)?;
+    Some(&text[start..end])
 }
 
 /// How many pieces there are.

@@ -7,7 +7,7 @@ ghost use Rattle.std.specs.List.{slice_get};
 ghost use Rattle.std.specs.Ordering.{nat_cmp};
 ghost use Rattle.std.specs.Cmp.Lexicographic.{slice_cmp};
 ghost use Rattle.std.specs.Str.{chars, IsUtf8};
-ghost use Rattle.gettext.specs.Messages.{Messages, key_of, is_within, numbered, count_of_forms};
+ghost use Rattle.gettext.specs.Messages.{Messages, key_asked, key_bytes_asked, is_within, numbered, count_of_forms};
 
 use crate::plurals::PluralRule;
 use crate::spans::{Row, bytes_of, nth_piece, nth_span, piece_count};
@@ -42,7 +42,7 @@ impl Model for Table {
 
 impl Table {
     ghost use Rattle.gettext.specs.declared.plurals.rule.PluralRule.TheVariants.{Default};
-    ghost use Rattle.gettext.specs.Messages.{StandsFor, numbered_within, value_of_rule};
+    ghost use Rattle.gettext.specs.Messages.{StandsFor, numbered_within, number_for};
     ghost use Rattle.gettext.specs.Rule.{rule_shown};
     ghost use Rattle.gettext.specs.Table.{held, messages_of, Keeps, IsRangeOf};
 
@@ -69,18 +69,18 @@ impl Table {
         }
     }
 
-    /// The number of the form for `n`, where no function is forced.
-    pub fn number(&self, n: u64) -> Option<usize>
-        ensures { result ≡ value_of_rule (rule_shown self.now.rule) n }
+    /// The number of the form for `n`, given what a forced function answered.
+    pub fn number(&self, n: u64, given: Option<usize>) -> Option<usize>
+        ensures { result ≡ number_for (rule_shown self.now.rule) given n }
     {
-        self.rule.number(n)
+        self.rule.number(n, given)
     }
 
     /// The form with that number, where nothing bounds the numbers below it.
     pub fn form_within(&self, context: Option<&str>, id: &str, number: usize) -> Option<&str>
         ensures { (c : Messages) → StandsFor (messages_of self.now) c
             → option_map (λ text. (number, chars text.now)) result
-            ≡ numbered_within c (key_of (option_map (λ s. chars s.now) context.entry) (chars id.now)) number }
+            ≡ numbered_within c (key_asked context.entry id.now) number }
     {
         if is_within(self.plurals, number) {
             self.form(context, id, number)
@@ -92,7 +92,7 @@ impl Table {
     /// The form with that number of the message with that context and id.
     pub fn form(&self, context: Option<&str>, id: &str, number: usize) -> Option<&str>
         ensures { option_map (λ text. (number, chars text.now)) result
-            ≡ numbered (messages_of self.now) (key_of (option_map (λ s. chars s.now) context.entry) (chars id.now)) number }
+            ≡ numbered (messages_of self.now) (key_asked context.entry id.now) number }
     {
         let row = row_with(&self.buffer, &self.rows, context, id)?;
         nth_form(&self.buffer, row, number)
@@ -100,7 +100,7 @@ impl Table {
 
     /// How many forms the message with that context and id has.
     pub fn form_count(&self, context: Option<&str>, id: &str) -> Option<usize>
-        ensures { result ≡ count_of_forms (messages_of self.now) (key_of (option_map (λ s. chars s.now) context.entry) (chars id.now)) }
+        ensures { result ≡ count_of_forms (messages_of self.now) (key_asked context.entry id.now) }
     {
         let row = row_with(&self.buffer, &self.rows, context, id)?;
         Some(piece_count(bytes_of(&self.buffer, row.forms)))
@@ -113,7 +113,7 @@ impl Table {
         id: &str,
         number: usize,
     ) -> Option<(usize, usize)>
-        ensures { IsRangeOf self.now.buffer result (numbered (messages_of self.now) (key_of (option_map (λ s. chars s.now) context.entry) (chars id.now)) number) }
+        ensures { IsRangeOf self.now.buffer result (numbered (messages_of self.now) (key_asked context.entry id.now) number) }
     {
         let row = row_with(&self.buffer, &self.rows, context, id)?;
         let (start, end) = nth_span(bytes_of(&self.buffer, row.forms), number)?;
@@ -147,7 +147,7 @@ fn bytes_in(text: Option<&str>) -> Option<&[u8]>
 
 /// Compares a key with the context, U+0004 and the id as one text, or with the id alone.
 fn compare_key(key: &[u8], context: Option<&[u8]>, id: &[u8]) -> Ordering
-    ensures { result ≡ slice_cmp nat_cmp key.now (key_of (option_map (λ s. s.now) context.entry) id.now) }
+    ensures { result ≡ slice_cmp nat_cmp key.now (key_bytes_asked context.entry id.now) }
 {
     let Some(context) = context else {
         return key.cmp(id);
@@ -171,7 +171,7 @@ fn compare_rest(rest: &[u8], id: &[u8]) -> Ordering
 
 fn row_with(buffer: &[u8], rows: &[Row], context: Option<&str>, id: &str) -> Option<Row>
     requires { IsTable buffer.now rows.now }
-    ensures found { result ≡ row_for buffer.now rows.now (encode_utf8_all (key_of (option_map (λ s. chars s.now) context.entry) (chars id.now))) }
+    ensures found { result ≡ row_for buffer.now rows.now (encode_utf8_all (key_asked context.entry id.now)) }
     ensures fits { IfSome result (IsRowOf buffer.now) }
 {
     find_row(buffer, rows, bytes_in(context), id.as_bytes())
@@ -179,7 +179,7 @@ fn row_with(buffer: &[u8], rows: &[Row], context: Option<&str>, id: &str) -> Opt
 
 fn find_row(buffer: &[u8], rows: &[Row], context: Option<&[u8]>, id: &[u8]) -> Option<Row>
     requires { IsTable buffer.now rows.now }
-    ensures { result ≡ row_for buffer.now rows.now (key_of (option_map (λ s. s.now) context.entry) id.now) }
+    ensures { result ≡ row_for buffer.now rows.now (key_bytes_asked context.entry id.now) }
 {
     let mut low = 0;
     let mut high = rows.len();

@@ -1,18 +1,13 @@
 //! Reading a whole MO file (GNU gettext manual, section 10.3).
 
-ghost use Rattle.std.specs.Prelude.{◌≡◌, ◌⊎◌, ◌≤◌, true, Some, None, length, IfOk, IfErr, IfSome, IsErrAnd, IsErrOf, MatchResult};
+ghost use Rattle.std.specs.Prelude.{◌≡◌, true, Some, None, IfOk};
 ghost use Rattle.writeable_core.specs.FirstFailure.{first_failure};
-ghost use Rattle.reading.specs.Reading.{IsReadToEnd};
 ghost use Rattle.gettext.specs.declared.error.Error.{Error};
-ghost use Rattle.gettext.specs.declared.error.Error.TheVariants.{Io, NoMemory, TooLong};
-ghost use Rattle.writeable_core.specs.Sink.{Rose};
+ghost use Rattle.gettext.specs.Errors.{error_of};
 ghost use Rattle.gettext.specs.Files.{AreFileRows, IsFile, buffer_of, is_in_utf8};
-ghost use Rattle.gettext.specs.Messages.{Messages, StandsFor};
-ghost use Rattle.gettext.specs.Mo.{IsInUtf8, entries};
 ghost use Rattle.gettext.specs.Faults.{all_rows_conditions, mo_fault};
 ghost use Rattle.gettext.specs.Reader.{GivesInMemory, IsHeader};
-ghost use Rattle.gettext.specs.Sources.{ComesAtEnd, IsReadFault, most_bytes, source_fault};
-ghost use Rattle.gettext.specs.Table.{messages_of};
+ghost use Rattle.gettext.specs.Parse.{ParsesBytes, ParsesSource};
 
 use super::decoding::{Decoded, decode};
 use super::layout::{Header, header_of};
@@ -24,21 +19,13 @@ use crate::catalog::Table;
 use crate::encoding::Encoding;
 use crate::error::Error;
 use crate::spans::Row;
-use reading::read_all;
+use reading::{ReadError, read_all};
 use std::alloc::{AllocError, Global};
 use writeable_core::Source;
 
 /// The table of a file's messages. Of equal keys the last row counts.
 pub fn table_of_bytes(alloc: Global, bytes: &[u8], options: Options) -> Result<Table, Error>
-    ensures ok { (c : Messages) → entries bytes.now options c
-        → MatchResult result (λ table. StandsFor (messages_of table) c) (λ e. e ≡ NoMemory) }
-    ensures err { (fault : Error) → mo_fault bytes.now options ≡ Some fault → IsErrAnd result
-        (λ e. (e ≡ NoMemory) ⊎ (e ≡ fault)) }
-    ensures sound { IfOk result (λ table. (c : Messages) × entries bytes.now options c
-        × StandsFor (messages_of table) c) }
-    ensures cause { MatchResult result (λ _. mo_fault bytes.now options ≡ None)
-        (λ e. (e ≡ NoMemory) ⊎ (mo_fault bytes.now options ≡ Some e)) }
-    ensures buffer { IfOk result (λ table. IsInUtf8 bytes.now options → table.buffer ≡ bytes.now) }
+    ensures { ParsesBytes result (λ table. table) bytes.now options }
 {
     let File {
         texts,
@@ -55,24 +42,13 @@ pub fn table_of_source<S: Source>(
     source: &mut S,
     options: Options,
 ) -> Result<Table, Error>
-    ensures sound { IfOk result (λ table. IfSome (S.left source.old)
-        (λ bytes. (length bytes ≤ most_bytes)
-        × (c : Messages) × entries bytes options c × StandsFor (messages_of table) c)) }
-    ensures read_to_end { IfErr result ComesAtEnd
-        → IsReadToEnd S.left S.ended S.faults source.old source.new }
-    ensures no_fault { IsErrOf result TooLong → S.faults source.new ≡ S.faults source.old }
-    ensures exact { IfSome (S.left source.old)
-        (λ bytes. MatchResult result (λ _. source_fault bytes options ≡ None)
-        (λ e. IsReadFault e ⊎ (source_fault bytes options ≡ Some e))) }
-    ensures io { IfErr result (λ e. e ≡ Io → Rose (S.faults source.old) (S.faults source.new)) }
-    ensures ok { IfSome (S.left source.old)
-        (λ bytes. (c : Messages) → length bytes ≤ most_bytes → entries bytes options c
-        → MatchResult result (λ table. StandsFor (messages_of table) c) IsReadFault) }
-    ensures later { S.faults source.old ≤ S.faults source.new }
-    ensures buffer { IfOk result (λ table. IfSome (S.left source.old)
-        (λ bytes. IsInUtf8 bytes options → table.buffer ≡ bytes)) }
+    ensures { ParsesSource S.left S.ended S.faults source.old source.new
+        result (λ table. table) options }
 {
-    let bytes = read_all(alloc, source)?;
+    let bytes = match read_all(alloc, source) {
+        Ok(bytes) => bytes,
+        Err(error) => return Err(read_error(error)),
+    };
     let File {
         texts,
         rows,
@@ -80,6 +56,17 @@ pub fn table_of_source<S: Source>(
     } = read(alloc, &bytes, options)?;
     let buffer = texts_or(texts, bytes);
     Ok(Table::new(buffer, rows, settings.rule, settings.plurals))
+}
+
+/// The error of a catalog for one of reading a source.
+fn read_error(error: ReadError) -> Error
+    ensures { result ≡ error_of error }
+{
+    match error {
+        ReadError::Fault => Error::Io,
+        ReadError::TooLong => Error::TooLong,
+        ReadError::NoMemory => Error::NoMemory,
+    }
 }
 
 /// What is read of a file: its rows in the order of their keys.

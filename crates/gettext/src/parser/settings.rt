@@ -64,7 +64,11 @@ impl Settings {
         let forms = bytes_of(bytes, row.forms);
         let form = &forms[..nul_place(forms)];
         match options.first_encoding() {
-            Encoding::Utf8 => Settings::of_text(alloc, unsafe { str::from_utf8_unchecked(form) }, options),
+            Encoding::Utf8 => Settings::of_text(
+                alloc,
+                unsafe { str::from_utf8_unchecked(form) },
+                options,
+            ),
             encoding => {
                 let mut text = Vec::new(alloc);
                 encoding.push_decoded(form, &mut text)?;

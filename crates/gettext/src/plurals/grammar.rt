@@ -7,8 +7,8 @@ ghost use Rattle.gettext.specs.declared.plurals.grammar.Level.TheVariants as Lev
 ghost use Rattle.gettext.specs.Grammar.{rank, tighter, level_of};
 ghost use Rattle.gettext.specs.Parsing.{IsParsed, found_of, parse, leaf_at, after_bang, after_open, after_close, after_question, after_colon, operator_at, closed, negated, joined, chosen, IsBinary};
 
-use super::tokens::Token;
 use super::expression::{Ast, Operator};
+use super::tokens::Token;
 use crate::error::Error;
 use std::alloc::Global;
 

@@ -1,11 +1,11 @@
 //! The plural rule of a file.
 
 ghost use Rattle.std.specs.Prelude.{◌≡◌};
-ghost use Rattle.gettext.specs.Messages.{value_of_rule};
+ghost use Rattle.gettext.specs.Messages.{number_for};
 ghost use Rattle.gettext.specs.Rule.{rule_shown};
 
 use super::expression::Ast;
-use super::resolver::default_resolver;
+use super::resolver::number_by;
 
 /// How the number of a form follows from a count, by a file or by who reads it.
 #[derive(Drop)]
@@ -19,13 +19,17 @@ pub enum PluralRule {
 }
 
 impl PluralRule {
-    /// The number of the form for `n`: none where an expression has no value, or a function answers.
-    pub fn number(&self, n: u64) -> Option<usize>
-        ensures { result ≡ value_of_rule (rule_shown self.now) n }
+    /// The number of the form for `n`, given what a forced function answered. None where an
+    /// expression has no value.
+    pub fn number(&self, n: u64, given: Option<usize>) -> Option<usize>
+        ensures { result ≡ number_for (rule_shown self.now) given n }
     {
+        if given.is_some() {
+            return given;
+        }
         match self {
-            PluralRule::Default => Some(default_resolver(n)),
-            PluralRule::Expr(ast) => ast.value(n).map(|number| number as usize),
+            PluralRule::Default => number_by(None, n),
+            PluralRule::Expr(ast) => number_by(Some(ast), n),
             PluralRule::Function => None,
         }
     }
