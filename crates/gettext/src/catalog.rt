@@ -117,7 +117,9 @@ impl<P: FormRule> Catalog<P> {
             None => own_words(msg_id, msg_id_plural, n),
         }
     }
+}
 
+impl<P: Drop> Catalog<P> {
     /// How many forms the message with that context and id has.
     pub fn form_count(&self, context: Option<&str>, id: &str) -> Option<usize>
         ensures count { (c : Messages) → StandsFor (messages_of self.now.entries) c

@@ -5,7 +5,7 @@ ghost use Rattle.std.specs.Option.{option_map};
 ghost use Rattle.gettext.specs.declared.error.Error.TheVariants.{NoMemory};
 ghost use Rattle.gettext.specs.declared.plurals.grammar.Level.TheVariants as Level;
 ghost use Rattle.gettext.specs.Grammar.{rank, tighter, level_of};
-ghost use Rattle.gettext.specs.Parsing.{IsParsed, found_of, parse, leaf_at, after_bang, after_open, after_close, after_question, after_colon, operator_at, closed, negated, joined, chosen, IsBinary};
+ghost use Rattle.gettext.specs.Parsing.{IsParsed, found_of, parse, leaf_at, is_mark, after, operator_at, closed, negated, joined, chosen, IsBinary};
 
 use super::expression::{Ast, Operator};
 use super::tokens::Token;
@@ -76,48 +76,29 @@ fn operator_at(level: Level, tokens: &[Token]) -> Option<(Operator, &[Token])>
     }
 }
 
-fn after_bang(tokens: &[Token]) -> Option<&[Token]>
-    ensures { option_map (λ x. x.now) result ≡ after_bang tokens.now }
+/// The tokens behind a mark, where they begin with it.
+fn after(mark: Token, tokens: &[Token]) -> Option<&[Token]>
+    ensures { option_map (λ x. x.now) result ≡ after mark tokens.now }
 {
-    match tokens.split_first()? {
-        (Token::Bang, rest) => Some(rest),
-        _ => None,
+    let (first, rest) = tokens.split_first()?;
+    if is_mark(mark, *first) {
+        Some(rest)
+    } else {
+        None
     }
 }
 
-fn after_open(tokens: &[Token]) -> Option<&[Token]>
-    ensures { option_map (λ x. x.now) result ≡ after_open tokens.now }
+/// Whether a token is that mark.
+fn is_mark(mark: Token, token: Token) -> bool
+    ensures { result ≡ is_mark mark token }
 {
-    match tokens.split_first()? {
-        (Token::Open, rest) => Some(rest),
-        _ => None,
-    }
-}
-
-fn after_close(tokens: &[Token]) -> Option<&[Token]>
-    ensures { option_map (λ x. x.now) result ≡ after_close tokens.now }
-{
-    match tokens.split_first()? {
-        (Token::Close, rest) => Some(rest),
-        _ => None,
-    }
-}
-
-fn after_question(tokens: &[Token]) -> Option<&[Token]>
-    ensures { option_map (λ x. x.now) result ≡ after_question tokens.now }
-{
-    match tokens.split_first()? {
-        (Token::Question, rest) => Some(rest),
-        _ => None,
-    }
-}
-
-fn after_colon(tokens: &[Token]) -> Option<&[Token]>
-    ensures { option_map (λ x. x.now) result ≡ after_colon tokens.now }
-{
-    match tokens.split_first()? {
-        (Token::Colon, rest) => Some(rest),
-        _ => None,
+    match mark {
+        Token::Bang => matches!(token, Token::Bang),
+        Token::Open => matches!(token, Token::Open),
+        Token::Close => matches!(token, Token::Close),
+        Token::Question => matches!(token, Token::Question),
+        Token::Colon => matches!(token, Token::Colon),
+        _ => false,
     }
 }
 
@@ -170,11 +151,11 @@ fn in_parentheses(alloc: Global, tokens: &[Token], budget: u32) -> Result<Part<'
     ensures found { IsParsed found_of result (parse budget Level.Atom tokens.now) }
     ensures low { IfOk result (λ p. p.height ≤ budget) }
 {
-    let Some(rest) = after_open(tokens) else {
+    let Some(rest) = after(Token::Open, tokens) else {
         return Err(Error::PluralParsing);
     };
     let inside = part_at(alloc, rest, Level::Conditional, budget - 1)?;
-    let Some(rest) = after_close(inside.rest) else {
+    let Some(rest) = after(Token::Close, inside.rest) else {
         return Err(Error::PluralParsing);
     };
     Ok(closed(inside, rest))
@@ -186,7 +167,7 @@ fn unary(alloc: Global, tokens: &[Token], budget: u32) -> Result<Part<'_>, Error
     ensures found { IsParsed found_of result (parse budget Level.Unary tokens.now) }
     ensures low { IfOk result (λ p. p.height ≤ budget) }
 {
-    let Some(rest) = after_bang(tokens) else {
+    let Some(rest) = after(Token::Bang, tokens) else {
         return part_at(alloc, tokens, Level::Atom, budget);
     };
     let operand = part_at(alloc, rest, Level::Unary, budget - 1)?;
@@ -219,14 +200,14 @@ fn conditional(alloc: Global, tokens: &[Token], budget: u32) -> Result<Part<'_>,
     ensures low { IfOk result (λ p. p.height ≤ budget) }
 {
     let condition = part_at(alloc, tokens, Level::Disjunction, budget)?;
-    let Some(rest) = after_question(condition.rest) else {
+    let Some(rest) = after(Token::Question, condition.rest) else {
         return Ok(condition);
     };
     if condition.height >= budget {
         return Err(Error::PluralParsing);
     }
     let first = part_at(alloc, rest, Level::Conditional, budget - 1)?;
-    let Some(rest) = after_colon(first.rest) else {
+    let Some(rest) = after(Token::Colon, first.rest) else {
         return Err(Error::PluralParsing);
     };
     let second = part_at(alloc, rest, Level::Conditional, budget - 1)?;

@@ -54,20 +54,20 @@ conditional-returns-in_err-first-clause-found t c =
     rw (p.1, p.2) (fails_by (parse (c.args.budget - 1) level.Conditional c.in-Some.rest.now) (parse c.args.budget level.Conditional c.args.tokens.now) c.in_err-first.ensures.found
     (choice_breaks c.args.budget c.requires c.args.tokens.now c.in_ok-condition.condition c.in_ok-condition.ensures.found c.in-Some.rest.now c.in-Some.ensures (omega (arith, c.if-condition-budget.false))))
 
-pub conditional-returns-in_default-after_colon-clause-found : goal.conditional-returns-in_default-after_colon-clause-found
-conditional-returns-in_default-after_colon-clause-found t c =
-    inr (refl, no_colon c.args.budget c.requires c.args.tokens.now c.in_ok-condition.condition c.in_ok-condition.ensures.found c.in-Some.rest.now c.in-Some.ensures (omega (arith, c.if-condition-budget.false)) c.in_ok-first.first c.in_ok-first.ensures.found c.in_default-after_colon.ensures)
+pub conditional-returns-in_default-after-clause-found : goal.conditional-returns-in_default-after-clause-found
+conditional-returns-in_default-after-clause-found t c =
+    inr (refl, no_colon c.args.budget c.requires c.args.tokens.now c.in_ok-condition.condition c.in_ok-condition.ensures.found c.in-Some.rest.now c.in-Some.ensures (omega (arith, c.if-condition-budget.false)) c.in_ok-first.first c.in_ok-first.ensures.found c.in_default-after.ensures)
 
 pub conditional-returns-in_err-second-clause-found : goal.conditional-returns-in_err-second-clause-found
 conditional-returns-in_err-second-clause-found t c =
     let p = err_from_is_err_and c.from_residual-in_err-second.result c.from_residual-in_err-second.ensures.1 in
-    rw (p.1, p.2) (fails_by (parse (c.args.budget - 1) level.Conditional c.in-Some-after_colon.rest.now) (parse c.args.budget level.Conditional c.args.tokens.now) c.in_err-second.ensures.found
-    (choice_ends c.args.budget c.requires c.args.tokens.now c.in_ok-condition.condition c.in_ok-condition.ensures.found c.in-Some.rest.now c.in-Some.ensures (omega (arith, c.if-condition-budget.false)) c.in_ok-first.first c.in_ok-first.ensures.found c.in-Some-after_colon.rest.now c.in-Some-after_colon.ensures))
+    rw (p.1, p.2) (fails_by (parse (c.args.budget - 1) level.Conditional c.in-Some-after.rest.now) (parse c.args.budget level.Conditional c.args.tokens.now) c.in_err-second.ensures.found
+    (choice_ends c.args.budget c.requires c.args.tokens.now c.in_ok-condition.condition c.in_ok-condition.ensures.found c.in-Some.rest.now c.in-Some.ensures (omega (arith, c.if-condition-budget.false)) c.in_ok-first.first c.in_ok-first.ensures.found c.in-Some-after.rest.now c.in-Some-after.ensures))
 
 pub conditional-returns-clause-found : goal.conditional-returns-clause-found
 conditional-returns-clause-found t c =
     made c.chosen.result _ _ c.chosen.ensures
-    (choice_found c.args.budget c.requires c.args.tokens.now c.in_ok-condition.condition c.in_ok-condition.ensures.found c.in-Some.rest.now c.in-Some.ensures (omega (arith, c.if-condition-budget.false)) c.in_ok-first.first c.in_ok-first.ensures.found c.in-Some-after_colon.rest.now c.in_ok-second.second c.in-Some-after_colon.ensures c.in_ok-second.ensures.found)
+    (choice_found c.args.budget c.requires c.args.tokens.now c.in_ok-condition.condition c.in_ok-condition.ensures.found c.in-Some.rest.now c.in-Some.ensures (omega (arith, c.if-condition-budget.false)) c.in_ok-first.first c.in_ok-first.ensures.found c.in-Some-after.rest.now c.in_ok-second.second c.in-Some-after.ensures c.in_ok-second.ensures.found)
 
 pub in_parentheses-returns-in_default-clause-found : goal.in_parentheses-returns-in_default-clause-found
 in_parentheses-returns-in_default-clause-found t c = inr (refl, no_open c.args.budget c.requires.positive c.args.tokens.now c.requires.no_leaf c.in_default.ensures)
@@ -78,13 +78,13 @@ in_parentheses-returns-in_err-inside-clause-found t c =
     rw (p.1, p.2) (fails_by (parse (c.args.budget - 1) level.Conditional c.in-Some.rest.now) (parse c.args.budget level.Atom c.args.tokens.now) c.in_err-inside.ensures.found
     (inside_fails c.args.budget c.requires.positive c.args.tokens.now c.requires.no_leaf c.in-Some.rest.now c.in-Some.ensures))
 
-pub in_parentheses-returns-in_default-after_close-clause-found : goal.in_parentheses-returns-in_default-after_close-clause-found
-in_parentheses-returns-in_default-after_close-clause-found t c =
-    inr (refl, no_close c.args.budget c.requires.positive c.args.tokens.now c.requires.no_leaf c.in-Some.rest.now c.in-Some.ensures c.in_ok-inside.inside c.in_ok-inside.ensures.found c.in_default-after_close.ensures)
+pub in_parentheses-returns-in_default-after-clause-found : goal.in_parentheses-returns-in_default-after-clause-found
+in_parentheses-returns-in_default-after-clause-found t c =
+    inr (refl, no_close c.args.budget c.requires.positive c.args.tokens.now c.requires.no_leaf c.in-Some.rest.now c.in-Some.ensures c.in_ok-inside.inside c.in_ok-inside.ensures.found c.in_default-after.ensures)
 
 pub in_parentheses-returns-clause-found : goal.in_parentheses-returns-clause-found
 in_parentheses-returns-clause-found t c =
-    inside_found c.args.budget c.requires.positive c.args.tokens.now c.requires.no_leaf c.in-Some.rest.now c.in-Some.ensures c.in_ok-inside.inside c.in_ok-inside.ensures.found c.in-Some-after_close.rest.now c.in-Some-after_close.ensures
+    inside_found c.args.budget c.requires.positive c.args.tokens.now c.requires.no_leaf c.in-Some.rest.now c.in-Some.ensures c.in_ok-inside.inside c.in_ok-inside.ensures.found c.in-Some-after.rest.now c.in-Some-after.ensures
     ∙ ap (λ f. Some f) (sym c.closed.ensures)
 
 pub part_at-returns-then-budget-eq0-clause-found : goal.part_at-returns-then-budget-eq0-clause-found
