@@ -3,7 +3,7 @@ use Rattle.std.proofs.Common.{◌≡◌, ℕ, List, [], ◌∷◌, Option, Some,
 use Rattle.gettext.specs.declared.encoding.Encoding.{Encoding}
 use Rattle.gettext.specs.Optional.{◌>>=◌}
 use Rattle.gettext.specs.Options.{Options}
-use Rattle.gettext.specs.Messages.{Message, Messages, Rule, StandsFor, value_of_rule, bound, numbered_within, form}
+use Rattle.gettext.specs.Messages.{Message, Messages, Rule, StandsFor, number_for, bound, numbered_within, form}
 use Rattle.gettext.specs.Mo.{AreRows, entries, first_encoding}
 use Rattle.gettext.specs.Table.{HasOneHeader}
 use Rattle.gettext.proofs.Bounds.{one_header-alike, bound-stands}
@@ -22,9 +22,9 @@ module _ (b : List ℕ) (o : Options) (c kept : Messages) (h : entries b o c) (s
   unfolding numbered_within
   within_alike key number = rw (bound_alike, numbered-stands kept c key number s) refl
 
-  pub form_alike : (key : List ℕ) (n : ℕ) → form kept key n ≡ form c key n
+  pub form_alike : (given : Option ℕ) (key : List ℕ) (n : ℕ) → form kept given key n ≡ form c given key n
   unfolding form
-  form_alike key n = ap (λ (r : Rule). value_of_rule r n >>= numbered_within kept key) s.rule ∙ after (value_of_rule c.rule n) where
+  form_alike given key n = ap (λ (r : Rule). number_for r given n >>= numbered_within kept key) s.rule ∙ after (number_for c.rule given n) where
     after : (o : Option ℕ) → (o >>= numbered_within kept key) ≡ (o >>= numbered_within c key)
     after None = refl
     after (Some number) = within_alike key number

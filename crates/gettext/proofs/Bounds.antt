@@ -2,8 +2,8 @@
 use Rattle.std.proofs.Common.{◌≡◌, ℕ, Bool, true, false, cond, List, [], ◌∷◌, Option, Some, None, refl, sym, ap, ◌∙◌}
 use Rattle.std.specs.Option.{option_or}
 use Rattle.std.proofs.lemmas.Slice.Eq.{bytes_eq-Decides}
-use Rattle.gettext.specs.declared.table.Row.{Row}
-use Rattle.gettext.specs.declared.rule.PluralRule.{PluralRule}
+use Rattle.gettext.specs.declared.spans.Row.{Row}
+use Rattle.gettext.specs.declared.plurals.rule.PluralRule.{PluralRule}
 use Rattle.gettext.specs.Optional.{◌>>=◌}
 use Rattle.writeable_core.specs.Texts.{same_text}
 use Rattle.gettext.specs.Messages.{Message, Messages, Rule, Default, Expr, Function, StandsFor, lookup, has_id, header_of, plurals_named, bound, bound_by, is_within, numbered, numbered_within}

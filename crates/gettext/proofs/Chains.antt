@@ -4,14 +4,15 @@ use Rattle.std.specs.Result.{MatchResult}
 use Rattle.std.proofs.lemmas.Bool.{lt-ltb, le-ltb}
 use Rattle.gettext.specs.declared.error.Error.{Error}
 use Rattle.gettext.specs.declared.error.Error.TheVariants.{NoMemory, PluralParsing}
-use Rattle.gettext.specs.declared.expression.Operator.{Operator}
-use Rattle.gettext.specs.declared.expression.tokens.Token.{Token}
-use Rattle.gettext.specs.declared.expression.grammar.Level.{Level}
-use Rattle.gettext.specs.declared.expression.grammar.Level.TheVariants as level
-use Rattle.gettext.specs.declared.expression.grammar.Part.{Part}
+use Rattle.gettext.specs.declared.plurals.expression.Operator.{Operator}
+use Rattle.gettext.specs.declared.plurals.tokens.Token.{Token}
+use Rattle.gettext.specs.declared.plurals.tokens.Token.TheVariants as token
+use Rattle.gettext.specs.declared.plurals.grammar.Level.{Level}
+use Rattle.gettext.specs.declared.plurals.grammar.Level.TheVariants as level
+use Rattle.gettext.specs.declared.plurals.grammar.Part.{Part}
 use Rattle.gettext.specs.Optional.{◌>>=◌}
 use Rattle.gettext.specs.Grammar.{tighter}
-use Rattle.gettext.specs.Parsing.{Found, found_of, parse, at_level, atom_or, leaf_at, after_open, after_close, after_bang, after_question, after_colon, unary_or, operator_at, more, choice_at, closed, negated, joined, chosen, IsBinary, IsParsed}
+use Rattle.gettext.specs.Parsing.{after, Found, found_of, parse, at_level, atom_or, leaf_at, unary_or, operator_at, more, choice_at, closed, negated, joined, chosen, IsBinary, IsParsed}
 
 -- an inner part that isn't there leaves the whole out
 pub fails_by : {e : Error} (inner found : Option Found) → (e ≡ NoMemory) ⊎ ((e ≡ PluralParsing) × (inner ≡ None)) → (inner ≡ None → found ≡ None) → (e ≡ NoMemory) ⊎ ((e ≡ PluralParsing) × (found ≡ None))
@@ -30,11 +31,11 @@ module _ (n : ℕ) (lt : 0 < n) (ts : List Token) where
   unfolding parse
   unfold_one l = subst (λ (k : ℕ). parse k l ts ≡ at_level (parse (k - 1)) k l ts) (sym (positive n lt)) (let e : suc (n - 1) - 1 ≡ n - 1 = omega arith in rw e refl)
 
-  pub parse-atom : parse n level.Atom ts ≡ atom_or (parse (n - 1) level.Conditional) (leaf_at ts) (after_open ts)
+  pub parse-atom : parse n level.Atom ts ≡ atom_or (parse (n - 1) level.Conditional) (leaf_at ts) (after token.Open ts)
   parse-atom = unfold_one level.Atom
 
-  pub parse-unary : parse n level.Unary ts ≡ unary_or (parse (n - 1) level.Unary) (after_bang ts) (parse n level.Atom ts)
-  parse-unary = unfold_one level.Unary ∙ ap (unary_or (parse (n - 1) level.Unary) (after_bang ts)) (sym parse-atom)
+  pub parse-unary : parse n level.Unary ts ≡ unary_or (parse (n - 1) level.Unary) (after token.Bang ts) (parse n level.Atom ts)
+  parse-unary = unfold_one level.Unary ∙ ap (unary_or (parse (n - 1) level.Unary) (after token.Bang ts)) (sym parse-atom)
 
   pub parse-chain : (l : Level) → IsBinary l → parse n l ts ≡ (parse n (tighter l) ts >>= more l (parse (n - 1) (tighter l)) n n)
   parse-chain level.Atom b = absurd b
@@ -47,8 +48,8 @@ module _ (n : ℕ) (lt : 0 < n) (ts : List Token) where
   parse-chain level.Disjunction b = unfold_one level.Disjunction ∙ ap (λ (o : Option Found). o >>= more level.Disjunction (parse (n - 1) level.Conjunction) n n) (sym (unfold_one level.Conjunction))
   parse-chain level.Conditional b = absurd b
 
-  pub parse-choice : parse n level.Conditional ts ≡ (parse n level.Disjunction ts >>= λ c. choice_at (parse (n - 1) level.Conditional) n c (after_question c.rest))
-  parse-choice = unfold_one level.Conditional ∙ ap (λ (o : Option Found). o >>= λ c. choice_at (parse (n - 1) level.Conditional) n c (after_question c.rest)) (sym (unfold_one level.Disjunction))
+  pub parse-choice : parse n level.Conditional ts ≡ (parse n level.Disjunction ts >>= λ c. choice_at (parse (n - 1) level.Conditional) n c (after token.Question c.rest))
+  parse-choice = unfold_one level.Conditional ∙ ap (λ (o : Option Found). o >>= λ c. choice_at (parse (n - 1) level.Conditional) n c (after token.Question c.rest)) (sym (unfold_one level.Disjunction))
 
 -- ---- operators of one level between parts
 
@@ -110,10 +111,10 @@ module _ (n : ℕ) (lt : 0 < n) (ts : List Token) where
   choice_fails none = rw (parse-choice n lt ts, none) refl
 
   module _ (c : Part) (first : parse n level.Disjunction ts ≡ Some (found_of c)) where
-    pub no_choice : None ≡ after_question c.rest.now → parse n level.Conditional ts ≡ Some (found_of c)
+    pub no_choice : None ≡ after token.Question c.rest.now → parse n level.Conditional ts ≡ Some (found_of c)
     no_choice none = rw (parse-choice n lt ts, first, ← none) refl
 
-    module _ (us : List Token) (asked : Some us ≡ after_question c.rest.now) where
+    module _ (us : List Token) (asked : Some us ≡ after token.Question c.rest.now) where
       pub choice_full : n ≤ c.height → parse n level.Conditional ts ≡ None
       choice_full high = rw (parse-choice n lt ts, first, ← asked, le-ltb c.height n high) refl
 
@@ -122,39 +123,39 @@ module _ (n : ℕ) (lt : 0 < n) (ts : List Token) where
         choice_breaks none = rw (parse-choice n lt ts, first, ← asked, lt-ltb c.height n low, none) refl
 
         module _ (a : Part) (second : parse (n - 1) level.Conditional us ≡ Some (found_of a)) where
-          pub no_colon : None ≡ after_colon a.rest.now → parse n level.Conditional ts ≡ None
+          pub no_colon : None ≡ after token.Colon a.rest.now → parse n level.Conditional ts ≡ None
           no_colon none = rw (parse-choice n lt ts, first, ← asked, lt-ltb c.height n low, second, ← none) refl
 
-          pub choice_ends : (vs : List Token) → Some vs ≡ after_colon a.rest.now → parse (n - 1) level.Conditional vs ≡ None → parse n level.Conditional ts ≡ None
+          pub choice_ends : (vs : List Token) → Some vs ≡ after token.Colon a.rest.now → parse (n - 1) level.Conditional vs ≡ None → parse n level.Conditional ts ≡ None
           choice_ends vs colon none = rw (parse-choice n lt ts, first, ← asked, lt-ltb c.height n low, second, ← colon, none) refl
 
-          pub choice_found : (vs : List Token) (b : Part) → Some vs ≡ after_colon a.rest.now → parse (n - 1) level.Conditional vs ≡ Some (found_of b) → parse n level.Conditional ts ≡ Some (chosen (found_of c) (found_of a) (found_of b))
+          pub choice_found : (vs : List Token) (b : Part) → Some vs ≡ after token.Colon a.rest.now → parse (n - 1) level.Conditional vs ≡ Some (found_of b) → parse n level.Conditional ts ≡ Some (chosen (found_of c) (found_of a) (found_of b))
           choice_found vs b colon third = rw (parse-choice n lt ts, first, ← asked, lt-ltb c.height n low, second, ← colon, third) refl
 
 module _ (n : ℕ) (lt : 0 < n) (ts : List Token) where
   pub leaf_found : (p : Part) → Some (found_of p) ≡ leaf_at ts → parse n level.Atom ts ≡ Some (found_of p)
   leaf_found p leaf = rw (parse-atom n lt ts, ← leaf) refl
 
-  pub no_bang : None ≡ after_bang ts → parse n level.Unary ts ≡ parse n level.Atom ts
+  pub no_bang : None ≡ after token.Bang ts → parse n level.Unary ts ≡ parse n level.Atom ts
   no_bang none = rw (parse-unary n lt ts, ← none) refl
 
-  pub operand_fails : (us : List Token) → Some us ≡ after_bang ts → parse (n - 1) level.Unary us ≡ None → parse n level.Unary ts ≡ None
+  pub operand_fails : (us : List Token) → Some us ≡ after token.Bang ts → parse (n - 1) level.Unary us ≡ None → parse n level.Unary ts ≡ None
   operand_fails us bang none = rw (parse-unary n lt ts, ← bang, none) refl
 
-  pub operand_found : (us : List Token) (p : Part) → Some us ≡ after_bang ts → parse (n - 1) level.Unary us ≡ Some (found_of p) → parse n level.Unary ts ≡ Some (negated (found_of p))
+  pub operand_found : (us : List Token) (p : Part) → Some us ≡ after token.Bang ts → parse (n - 1) level.Unary us ≡ Some (found_of p) → parse n level.Unary ts ≡ Some (negated (found_of p))
   operand_found us p bang some = rw (parse-unary n lt ts, ← bang, some) refl
 
   module _ (no_leaf : leaf_at ts ≡ None) where
-    pub no_open : None ≡ after_open ts → parse n level.Atom ts ≡ None
+    pub no_open : None ≡ after token.Open ts → parse n level.Atom ts ≡ None
     no_open none = rw (parse-atom n lt ts, no_leaf, ← none) refl
 
-    module _ (us : List Token) (opened : Some us ≡ after_open ts) where
+    module _ (us : List Token) (opened : Some us ≡ after token.Open ts) where
       pub inside_fails : parse (n - 1) level.Conditional us ≡ None → parse n level.Atom ts ≡ None
       inside_fails none = rw (parse-atom n lt ts, no_leaf, ← opened, none) refl
 
       module _ (p : Part) (inside : parse (n - 1) level.Conditional us ≡ Some (found_of p)) where
-        pub no_close : None ≡ after_close p.rest.now → parse n level.Atom ts ≡ None
+        pub no_close : None ≡ after token.Close p.rest.now → parse n level.Atom ts ≡ None
         no_close none = rw (parse-atom n lt ts, no_leaf, ← opened, inside, ← none) refl
 
-        pub inside_found : (vs : List Token) → Some vs ≡ after_close p.rest.now → parse n level.Atom ts ≡ Some (closed (found_of p) vs)
+        pub inside_found : (vs : List Token) → Some vs ≡ after token.Close p.rest.now → parse n level.Atom ts ≡ Some (closed (found_of p) vs)
         inside_found vs shut = rw (parse-atom n lt ts, no_leaf, ← opened, inside, ← shut) refl

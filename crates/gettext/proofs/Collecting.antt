@@ -15,10 +15,10 @@ use Rattle.std.proofs.lemmas.Map.Text.{btree_map_updates_str, is_eq-slice_cmp}
 use Rattle.std.proofs.lemmas.Map.Keys.{sorted_tail}
 use Rattle.std.proofs.lemmas.Cmp.{nat_list_cmp_total, tied_itself}
 use Rattle.std.proofs.lemmas.Bool.{false_from_ne_true, true≢false}
-use Rattle.gettext.specs.declared.table.Row.{Row}
+use Rattle.gettext.specs.declared.spans.Row.{Row}
 use Rattle.writeable_core.specs.Texts.{same_text}
 use Rattle.gettext.specs.Table.{key_bytes, row_for, IsRowOf, Sorts}
-use Rattle.gettext.specs.Reading.{IsKeyed, Collects}
+use Rattle.gettext.specs.Reader.{IsKeyed, Collects}
 use Rattle.gettext.proofs.Keys.{same_text-from_cmp, row_for-at}
 
 -- ---- one row more

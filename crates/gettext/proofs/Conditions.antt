@@ -13,7 +13,8 @@ use Rattle.gettext.specs.declared.error.Error.TheVariants.{DecodingError, Eof, M
 use Rattle.gettext.specs.declared.encoding.Encoding.{Encoding}
 use Rattle.gettext.specs.Encoding.{is_valid}
 use Rattle.gettext.specs.Messages.{has_id, ends_context}
-use Rattle.gettext.specs.Mo.{is_big_endian, number, is_nul, head_of, head_conditions}
+use Rattle.gettext.specs.Layout.{is_big_endian, number, is_nul, head_of}
+use Rattle.gettext.specs.Faults.{head_conditions}
 
 -- conditions behind others
 pub ruleset by_parts = (failed_first, passed_first)

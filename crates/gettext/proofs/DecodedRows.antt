@@ -6,12 +6,12 @@ use Rattle.std.specs.Str.{is_utf8, chars}
 use Rattle.std.proofs.Math.Seq.{take-append_seam, drop-append_seam}
 use Rattle.std.proofs.lemmas.List.{append-nil, map-append, length-append, take-append-le, drop-append-le, take_all, length-drop}
 use Rattle.gettext.specs.declared.encoding.Encoding.{Encoding}
-use Rattle.gettext.specs.declared.table.Row.{Row}
-use Rattle.gettext.specs.declared.table.Span.{Span}
+use Rattle.gettext.specs.declared.spans.Row.{Row}
+use Rattle.gettext.specs.declared.spans.Span.{Span}
 use Rattle.gettext.specs.Encoding.{is_valid, text_in, utf8_in}
-use Rattle.gettext.specs.Mo.{pieces_of}
+use Rattle.gettext.specs.Layout.{pieces_of}
 use Rattle.gettext.specs.Table.{LiesIn, bytes_at, key_bytes, form_bytes, message_at, IsRowOf}
-use Rattle.gettext.specs.Reading.{IsRowIn}
+use Rattle.gettext.specs.Reader.{IsRowIn}
 use Rattle.gettext.specs.Decoding.{AreRowsIn, decoded_message, decoded_messages, DecodesRow, Decodes}
 use Rattle.gettext.proofs.Lists.{AllByRecursion-push}
 use Rattle.gettext.proofs.Encodings.{AreBytes, AreBytes-range, AreBytes-slice_split, is_utf8-utf8_in, chars-utf8_in, slice_split-utf8_in}

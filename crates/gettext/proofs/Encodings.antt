@@ -13,7 +13,7 @@ use Rattle.std.proofs.lemmas.Str.{IsUtf8-from_is_utf8, is_utf8-from_IsUtf8, scal
 use Rattle.std.proofs.lemmas.Str.Ascii.{trim_ascii_is}
 use Rattle.gettext.specs.declared.encoding.Encoding.{Encoding}
 use Rattle.gettext.specs.declared.encoding.Encoding.TheVariants.{Utf8, Latin1, Windows1252}
-use Rattle.gettext.specs.Mo.{is_nul}
+use Rattle.gettext.specs.Layout.{is_nul}
 use Rattle.gettext.specs.Encoding.{high_characters, windows_1252, IsText, is_valid, text_in, utf8_in, trimmed}
 
 -- ---- bytes

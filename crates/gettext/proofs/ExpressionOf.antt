@@ -10,9 +10,9 @@ use Rattle.std.specs.Char.{is_ascii_digit}
 use Rattle.std.specs.Str.Parse.{digits_value}
 use Rattle.std.proofs.lemmas.Bool.{eqb-true, eqb-false}
 use Rattle.std.proofs.lemmas.List.{length-drop, nil_from_length}
-use Rattle.gettext.specs.declared.expression.tokens.Token.{Token}
-use Rattle.gettext.specs.declared.expression.tokens.Token.TheVariants.{Numeral}
-use Rattle.gettext.specs.declared.expression.grammar.Level.TheVariants as level
+use Rattle.gettext.specs.declared.plurals.tokens.Token.{Token}
+use Rattle.gettext.specs.declared.plurals.tokens.Token.TheVariants.{Numeral}
+use Rattle.gettext.specs.declared.plurals.grammar.Level.TheVariants as level
 use Rattle.gettext.specs.Optional.{◌>>=◌}
 use Rattle.gettext.specs.Expression.{Expression}
 use Rattle.gettext.specs.Tokens.{word_at, measured, numeral_at, token_at, is_space, Reads, ends, space, token}

@@ -14,10 +14,10 @@ use Rattle.std.proofs.lemmas.Str.Parse.{digit_at}
 use Rattle.std.proofs.lemmas.List.Folds.{length-prefix_len}
 use Rattle.gettext.specs.declared.error.Error.{Error}
 use Rattle.gettext.specs.declared.error.Error.TheVariants.{NoMemory, PluralParsing}
-use Rattle.gettext.specs.declared.expression.Ast.{Ast}
-use Rattle.gettext.specs.declared.expression.tokens.Token.{Token}
-use Rattle.gettext.specs.declared.expression.tokens.Token.TheVariants.{Numeral}
-use Rattle.gettext.specs.declared.expression.grammar.Level.TheVariants as level
+use Rattle.gettext.specs.declared.plurals.expression.Ast.{Ast}
+use Rattle.gettext.specs.declared.plurals.tokens.Token.{Token}
+use Rattle.gettext.specs.declared.plurals.tokens.Token.TheVariants.{Numeral}
+use Rattle.gettext.specs.declared.plurals.grammar.Level.TheVariants as level
 use Rattle.gettext.specs.Expression.{Expression, tree_of}
 use Rattle.gettext.specs.Tokens.{words, word_at, measured, numeral_at, token_at, is_space, Reads, ends, space, token, IsUnreadable}
 use Rattle.gettext.specs.Grammar.{IsPart, IsWhole, IsNoWhole, expr, IsNoExpression}

@@ -6,7 +6,9 @@ use Rattle.gettext.specs.declared.error.Error.{Error}
 use Rattle.gettext.specs.declared.encoding.Encoding.{Encoding}
 use Rattle.gettext.specs.Metadata.{Field}
 use Rattle.gettext.specs.Options.{Options}
-use Rattle.gettext.specs.Mo.{IsMoFault, header_conditions, text_conditions, head_conditions, forms_conditions, original_conditions, translation_conditions, row_conditions, rows_conditions, metadata_conditions, all_rows_conditions, mo_fault, originals_of, translations_of, original_of, translation_of, count_of, first_encoding, later_encoding, fields_in_file}
+use Rattle.gettext.specs.Layout.{originals_of, translations_of, original_of, translation_of, count_of}
+use Rattle.gettext.specs.Mo.{first_encoding, later_encoding, fields_in_file}
+use Rattle.gettext.specs.Faults.{IsMoFault, header_conditions, text_conditions, head_conditions, forms_conditions, original_conditions, translation_conditions, row_conditions, rows_conditions, metadata_conditions, all_rows_conditions, mo_fault}
 
 abbrev AreFaults : List (Condition Error) → Type 0
 AreFaults = AllByRecursion (λ c. IsMoFault c.1)

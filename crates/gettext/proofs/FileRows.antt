@@ -7,11 +7,12 @@ use Rattle.writeable_core.specs.FirstFailureLaws.{failed_first, passed_first}
 use Rattle.gettext.specs.declared.error.Error.{Error}
 use Rattle.gettext.specs.declared.error.Error.TheVariants.{NoMemory}
 use Rattle.gettext.specs.declared.encoding.Encoding.{Encoding}
-use Rattle.gettext.specs.declared.settings.Settings.{Settings}
-use Rattle.gettext.specs.declared.table.Row.{Row}
+use Rattle.gettext.specs.declared.parser.settings.Settings.{Settings}
+use Rattle.gettext.specs.declared.spans.Row.{Row}
 use Rattle.gettext.specs.Options.{Options}
-use Rattle.gettext.specs.Mo.{first_encoding, later_encoding, fields_in_file, row_conditions, rows_conditions, metadata_conditions, all_rows_conditions}
-use Rattle.gettext.specs.Reading.{row_of, rows_from, IsReadRow, IsRowIn, Pushed}
+use Rattle.gettext.specs.Mo.{first_encoding, later_encoding, fields_in_file}
+use Rattle.gettext.specs.Faults.{row_conditions, rows_conditions, metadata_conditions, all_rows_conditions}
+use Rattle.gettext.specs.Reader.{row_of, rows_from, IsReadRow, IsRowIn, Pushed}
 use Rattle.gettext.specs.Decoding.{AreRowsIn}
 use Rattle.gettext.specs.Settings.{IsSettings}
 use Rattle.gettext.specs.Files.{found_fields, AreFileRows}

@@ -7,8 +7,8 @@ use Rattle.std.proofs.lemmas.Bool.{and_parts, ne_eqb}
 use Rattle.std.proofs.lemmas.Slice.Eq.{bytes_eq-Decides}
 use Rattle.gettext.specs.declared.encoding.Encoding.{Encoding}
 use Rattle.gettext.specs.declared.encoding.Encoding.TheVariants.{Utf8, Latin1, Windows1252}
-use Rattle.gettext.specs.declared.settings.Settings.{Settings}
-use Rattle.gettext.specs.declared.table.Row.{Row}
+use Rattle.gettext.specs.declared.parser.settings.Settings.{Settings}
+use Rattle.gettext.specs.declared.spans.Row.{Row}
 use Rattle.gettext.specs.Optional.{◌>>=◌}
 use Rattle.gettext.specs.Expression.{Expression}
 use Rattle.gettext.specs.Parsing.{expression_of}
@@ -20,10 +20,12 @@ use Rattle.writeable_core.specs.Texts.{same_text}
 use Rattle.gettext.specs.Rule.{rule_shown}
 use Rattle.gettext.specs.Metadata.{Field, value_of}
 use Rattle.gettext.specs.Messages.{Message, Messages, Rule, Default, Expr, Function, StandsFor, lookup, has_id, header_of, plurals_among, plurals_of, plurals_named, bound_by}
-use Rattle.gettext.specs.Mo.{AreRows, entries, count_of, fields_of_header, header_fields, mo_fault, row_message, first_encoding, later_encoding, plural_of, rule_by, IsInUtf8}
+use Rattle.gettext.specs.Layout.{count_of}
+use Rattle.gettext.specs.Mo.{AreRows, entries, fields_of_header, header_fields, row_message, first_encoding, later_encoding, plural_of, IsInUtf8}
+use Rattle.gettext.specs.Faults.{mo_fault, rule_by}
 use Rattle.gettext.specs.Settings.{plurals_by}
 use Rattle.gettext.specs.Table.{message_at, IsRowOf, Sorts, held, messages_of, HasOneHeader, Keeps}
-use Rattle.gettext.specs.Reading.{row_of, rows_from, IsRowIn}
+use Rattle.gettext.specs.Reader.{row_of, rows_from, IsRowIn}
 use Rattle.gettext.specs.Decoding.{AreRowsIn, decoded_message, decoded_messages, Decodes}
 use Rattle.gettext.specs.Files.{found_fields, AreFileRows, is_utf_8, is_in_utf8, IsFile}
 use Rattle.gettext.proofs.Bounds.{has_other, one_header-alike, bound-stands}

@@ -5,14 +5,15 @@ use Rattle.std.specs.List.{slice_get, position_or_len}
 use Rattle.std.specs.Str.{IsUtf8}
 use Rattle.std.proofs.lemmas.Str.{IsUtf8-from_is_utf8}
 use Rattle.gettext.specs.declared.encoding.Encoding.{Encoding}
-use Rattle.gettext.specs.declared.table.Row.{Row}
+use Rattle.gettext.specs.declared.spans.Row.{Row}
 use Rattle.gettext.specs.Options.{Options}
 use Rattle.gettext.specs.Encoding.{is_valid, text_in, utf8_in}
 use Rattle.gettext.specs.Metadata.{fields_of}
 use Rattle.gettext.specs.Messages.{has_id}
-use Rattle.gettext.specs.Mo.{is_nul, head_of, pieces_of, original_of, translation_of, first_encoding, row_message, fields_in_file}
+use Rattle.gettext.specs.Layout.{is_nul, head_of, pieces_of, original_of, translation_of}
+use Rattle.gettext.specs.Mo.{first_encoding, row_message, fields_in_file}
 use Rattle.gettext.specs.Table.{bytes_at, key_bytes, form_bytes}
-use Rattle.gettext.specs.Reading.{IsReadRow}
+use Rattle.gettext.specs.Reader.{IsReadRow}
 use Rattle.gettext.proofs.Encodings.{AreBytes, AreBytes-range, AreBytes-take, encodes-text_in, is_utf8-utf8_in}
 use Rattle.gettext.proofs.Ids.{has_id-text_in}
 use Rattle.gettext.proofs.Lookups.{list_all-slice_get, slice_get-map}

@@ -1,15 +1,15 @@
 -- Reading by levels finds the parts of the grammar, and no others.
 use Rattle.std.proofs.Common.{◌≡◌, ◌≢◌, ℕ, zero, suc, ◌≤◌, ◌<◌, Bool, true, false, cond, ltb, eqb, List, [], ◌∷◌, ◌++◌, Option, Some, None, refl, sym, ap, subst, ◌∙◌, arith, append_assoc}
 use Rattle.std.proofs.lemmas.Bool.{ltb-true, eqb-true}
-use Rattle.gettext.specs.declared.expression.Operator.{Operator}
-use Rattle.gettext.specs.declared.expression.tokens.Token.{Token}
-use Rattle.gettext.specs.declared.expression.tokens.Token.TheVariants as token
-use Rattle.gettext.specs.declared.expression.grammar.Level.{Level}
-use Rattle.gettext.specs.declared.expression.grammar.Level.TheVariants as level
+use Rattle.gettext.specs.declared.plurals.expression.Operator.{Operator}
+use Rattle.gettext.specs.declared.plurals.tokens.Token.{Token}
+use Rattle.gettext.specs.declared.plurals.tokens.Token.TheVariants as token
+use Rattle.gettext.specs.declared.plurals.grammar.Level.{Level}
+use Rattle.gettext.specs.declared.plurals.grammar.Level.TheVariants as level
 use Rattle.gettext.specs.Optional.{◌>>=◌}
 use Rattle.gettext.specs.Expression.{Count, Number}
 use Rattle.gettext.specs.Grammar.{rank, tighter, level_of, IsPart, name, numeral, parentheses, negation, binary, conditional, looser}
-use Rattle.gettext.specs.Parsing.{Found, Parser, parse, at_level, atom, atom_or, leaf_at, after_open, after_close, after_bang, after_question, after_colon, unary, unary_or, operator_at, more, more_at, chain, choice, choice_at, closed, negated, joined, chosen, units, products, sums, relations, equalities, conjunctions, disjunctions}
+use Rattle.gettext.specs.Parsing.{is_mark, after, Found, Parser, parse, at_level, atom, atom_or, leaf_at, unary, unary_or, operator_at, more, more_at, chain, choice, choice_at, closed, negated, joined, chosen, units, products, sums, relations, equalities, conjunctions, disjunctions}
 
 -- ---- what is read is a part
 
@@ -31,30 +31,28 @@ guarded : {A : Type 0} (b : Bool) (o : Option A) (y : A) → cond b o None ≡ S
 guarded true o y e = (refl, e)
 guarded false o y e = absurd cc
 
-open_is : (ts us : List Token) → after_open ts ≡ Some us → ts ≡ token.Open ∷ us
-open_is [] us e = absurd cc
-open_is (token.Open ∷ ts) us e = let same : ts ≡ us = cc in ap (λ (x : List Token). token.Open ∷ x) same
-open_is (t ∷ ts) us e = absurd cc
+-- the token that passes the test is the mark
+mark_is : (mark t : Token) → is_mark mark t ≡ true → t ≡ mark
+mark_is token.Bang token.Bang e = refl
+mark_is token.Open token.Open e = refl
+mark_is token.Close token.Close e = refl
+mark_is token.Question token.Question e = refl
+mark_is token.Colon token.Colon e = refl
+mark_is mark t e = absurd cc
 
-close_is : (ts us : List Token) → after_close ts ≡ Some us → ts ≡ token.Close ∷ us
-close_is [] us e = absurd cc
-close_is (token.Close ∷ ts) us e = let same : ts ≡ us = cc in ap (λ (x : List Token). token.Close ∷ x) same
-close_is (t ∷ ts) us e = absurd cc
+-- what stands behind a mark stands behind it
+after_is : (mark : Token) (ts us : List Token) → after mark ts ≡ Some us → ts ≡ mark ∷ us
+after_is mark [] us e = absurd cc
+after_is mark (t ∷ ts) us e =
+    let g = guarded (is_mark mark t) (Some ts) us e in
+    let first : t ≡ mark = mark_is mark t g.0 in
+    let rest : ts ≡ us = cc (g.1) in
+    cc
 
-bang_is : (ts us : List Token) → after_bang ts ≡ Some us → ts ≡ token.Bang ∷ us
-bang_is [] us e = absurd cc
-bang_is (token.Bang ∷ ts) us e = let same : ts ≡ us = cc in ap (λ (x : List Token). token.Bang ∷ x) same
-bang_is (t ∷ ts) us e = absurd cc
-
-question_is : (ts us : List Token) → after_question ts ≡ Some us → ts ≡ token.Question ∷ us
-question_is [] us e = absurd cc
-question_is (token.Question ∷ ts) us e = let same : ts ≡ us = cc in ap (λ (x : List Token). token.Question ∷ x) same
-question_is (t ∷ ts) us e = absurd cc
-
-colon_is : (ts us : List Token) → after_colon ts ≡ Some us → ts ≡ token.Colon ∷ us
-colon_is [] us e = absurd cc
-colon_is (token.Colon ∷ ts) us e = let same : ts ≡ us = cc in ap (λ (x : List Token). token.Colon ∷ x) same
-colon_is (t ∷ ts) us e = absurd cc
+-- tokens with a mark between them, and others behind them
+placed : (front mid inner rest ts : List Token) (mark : Token) → ts ≡ front ++ mid → mid ≡ mark ∷ (inner ++ rest)
+    → ts ≡ (front ++ mark ∷ inner) ++ rest
+placed front mid inner rest ts mark at is = at ∙ ap (λ (x : List Token). front ++ x) is ∙ sym (append_assoc front (mark ∷ inner) rest)
 
 same_rank : (l m : Level) → rank l ≡ rank m → l ≡ m
 same_rank l m e = by_rank l ∙ ap of_rank e ∙ sym (by_rank m) where
@@ -104,26 +102,26 @@ pub is_some : {A : Type 0} (x y : A) → Some x ≡ Some y → x ≡ y
 is_some x y e = cc
 
 atom_sound : (b : ℕ) (inside : Parser) → IsSound level.Conditional b inside → IsSound level.Atom (suc b) (atom inside)
-atom_sound b inside sound = record { takes = λ ts p e. by_leaf ts p (leaf_at ts) (after_open ts) refl refl e } where
-  by_leaf : (ts : List Token) (p : Found) (l : Option Found) (o : Option (List Token)) → leaf_at ts ≡ l → after_open ts ≡ o → atom_or inside l o ≡ Some p → Takes level.Atom (suc b) ts p
+atom_sound b inside sound = record { takes = λ ts p e. by_leaf ts p (leaf_at ts) (after token.Open ts) refl refl e } where
+  by_leaf : (ts : List Token) (p : Found) (l : Option Found) (o : Option (List Token)) → leaf_at ts ≡ l → after token.Open ts ≡ o → atom_or inside l o ≡ Some p → Takes level.Atom (suc b) ts p
   by_leaf ts p (Some q) o l_is o_is e = leaf_takes b ts p (l_is ∙ e)
   by_leaf ts p None None l_is o_is e = absurd cc
   by_leaf ts p None (Some us) l_is o_is e =
-      let first = bind_some (inside us) (λ q. after_close q.rest >>= λ vs. Some (closed q vs)) p e in
-      let second = bind_some (after_close first.0.rest) (λ vs. Some (closed first.0 vs)) p first.2 in
+      let first = bind_some (inside us) (λ q. after token.Close q.rest >>= λ vs. Some (closed q vs)) p e in
+      let second = bind_some (after token.Close first.0.rest) (λ vs. Some (closed first.0 vs)) p first.2 in
       let t = sound.takes us first.0 first.1 in
-      let shut = close_is first.0.rest second.0 second.1 in
-      let whole : ts ≡ (token.Open ∷ t.front ++ token.Close ∷ []) ++ second.0 = open_is ts us o_is ∙ ap (λ (x : List Token). token.Open ∷ x) (t.parts ∙ ap (λ (x : List Token). t.front ++ x) shut ∙ sym (append_assoc t.front (token.Close ∷ []) second.0)) in
+      let shut = after_is token.Close first.0.rest second.0 second.1 in
+      let whole : ts ≡ (token.Open ∷ t.front ++ token.Close ∷ []) ++ second.0 = after_is token.Open ts us o_is ∙ ap (λ (x : List Token). token.Open ∷ x) (t.parts ∙ ap (λ (x : List Token). t.front ++ x) shut ∙ sym (append_assoc t.front (token.Close ∷ []) second.0)) in
       subst (λ (q : Found). Takes level.Atom (suc b) ts q) (is_some (closed first.0 second.0) p second.2) (record { front = token.Open ∷ t.front ++ token.Close ∷ []; parts = whole; part = parentheses t.part; low = omega (arith, t.low) })
 
 unary_sound : (b : ℕ) (inner tight : Parser) → IsSound level.Unary b inner → IsSound level.Atom (suc b) tight → IsSound level.Unary (suc b) (unary inner tight)
-unary_sound b inner tight sound first = record { takes = λ ts p e. by_bang ts p (after_bang ts) refl e } where
-  by_bang : (ts : List Token) (p : Found) (o : Option (List Token)) → after_bang ts ≡ o → unary_or inner o (tight ts) ≡ Some p → Takes level.Unary (suc b) ts p
+unary_sound b inner tight sound first = record { takes = λ ts p e. by_bang ts p (after token.Bang ts) refl e } where
+  by_bang : (ts : List Token) (p : Found) (o : Option (List Token)) → after token.Bang ts ≡ o → unary_or inner o (tight ts) ≡ Some p → Takes level.Unary (suc b) ts p
   by_bang ts p None o_is e = let t = first.takes ts p e in record { front = t.front; parts = t.parts; part = looser (λ h. absurd cc) t.part; low = t.low }
   by_bang ts p (Some us) o_is e =
       let got = bind_some (inner us) (λ q. Some (negated q)) p e in
       let t = sound.takes us got.0 got.1 in
-      let whole : ts ≡ (token.Bang ∷ t.front) ++ got.0.rest = bang_is ts us o_is ∙ ap (λ (x : List Token). token.Bang ∷ x) t.parts in
+      let whole : ts ≡ (token.Bang ∷ t.front) ++ got.0.rest = after_is token.Bang ts us o_is ∙ ap (λ (x : List Token). token.Bang ∷ x) t.parts in
       subst (λ (q : Found). Takes level.Unary (suc b) ts q) (is_some (negated got.0) p got.2) (record { front = token.Bang ∷ t.front; parts = whole; part = negation t.part; low = omega (arith, t.low) })
 
 module _ (b : ℕ) (l : Level) (right : Parser) (sound : IsSound (tighter l) b right) where
@@ -161,20 +159,20 @@ module _ (b : ℕ) (l : Level) (right : Parser) (sound : IsSound (tighter l) b r
 choice_sound : (b : ℕ) (inner first : Parser) → IsSound level.Conditional b inner → IsSound level.Disjunction (suc b) first → IsSound level.Conditional (suc b) (choice inner first (suc b))
 choice_sound b inner first sound tight = record {
   takes = λ ts p e.
-      let got = bind_some (first ts) (λ c. choice_at inner (suc b) c (after_question c.rest)) p e in
-      by_question ts p got.0 (tight.takes ts got.0 got.1) (after_question got.0.rest) refl got.2;
+      let got = bind_some (first ts) (λ c. choice_at inner (suc b) c (after token.Question c.rest)) p e in
+      by_question ts p got.0 (tight.takes ts got.0 got.1) (after token.Question got.0.rest) refl got.2;
 } where
-  by_question : (ts : List Token) (p c : Found) → Takes level.Disjunction (suc b) ts c → (o : Option (List Token)) → after_question c.rest ≡ o → choice_at inner (suc b) c o ≡ Some p → Takes level.Conditional (suc b) ts p
+  by_question : (ts : List Token) (p c : Found) → Takes level.Disjunction (suc b) ts c → (o : Option (List Token)) → after token.Question c.rest ≡ o → choice_at inner (suc b) c o ≡ Some p → Takes level.Conditional (suc b) ts p
   by_question ts p c t None o_is e = subst (λ (x : Found). Takes level.Conditional (suc b) ts x) (is_some c p e) (record { front = t.front; parts = t.parts; part = looser (λ h. absurd cc) t.part; low = t.low })
   by_question ts p c t (Some us) o_is e =
-      let g = guarded (ltb c.height (suc b)) (inner us >>= λ a. after_colon a.rest >>= λ vs. inner vs >>= λ x. Some (chosen c a x)) p e in
-      let one = bind_some (inner us) (λ a. after_colon a.rest >>= λ vs. inner vs >>= λ x. Some (chosen c a x)) p g.1 in
-      let two = bind_some (after_colon one.0.rest) (λ vs. inner vs >>= λ x. Some (chosen c one.0 x)) p one.2 in
+      let g = guarded (ltb c.height (suc b)) (inner us >>= λ a. after token.Colon a.rest >>= λ vs. inner vs >>= λ x. Some (chosen c a x)) p e in
+      let one = bind_some (inner us) (λ a. after token.Colon a.rest >>= λ vs. inner vs >>= λ x. Some (chosen c a x)) p g.1 in
+      let two = bind_some (after token.Colon one.0.rest) (λ vs. inner vs >>= λ x. Some (chosen c one.0 x)) p one.2 in
       let three = bind_some (inner two.0) (λ x. Some (chosen c one.0 x)) p two.2 in
       let ta = sound.takes us one.0 one.1 in
       let tb = sound.takes two.0 three.0 three.1 in
-      let behind : us ≡ (ta.front ++ token.Colon ∷ tb.front) ++ three.0.rest = ta.parts ∙ ap (λ (x : List Token). ta.front ++ x) (colon_is one.0.rest two.0 two.1 ∙ ap (λ (x : List Token). token.Colon ∷ x) tb.parts) ∙ sym (append_assoc ta.front (token.Colon ∷ tb.front) three.0.rest) in
-      let whole : ts ≡ (t.front ++ token.Question ∷ (ta.front ++ token.Colon ∷ tb.front)) ++ three.0.rest = t.parts ∙ ap (λ (x : List Token). t.front ++ x) (question_is c.rest us o_is ∙ ap (λ (x : List Token). token.Question ∷ x) behind) ∙ sym (append_assoc t.front (token.Question ∷ (ta.front ++ token.Colon ∷ tb.front)) three.0.rest) in
+      let behind : us ≡ (ta.front ++ token.Colon ∷ tb.front) ++ three.0.rest = placed ta.front one.0.rest tb.front three.0.rest us token.Colon ta.parts (after_is token.Colon one.0.rest two.0 two.1 ∙ ap (λ (x : List Token). token.Colon ∷ x) tb.parts) in
+      let whole : ts ≡ (t.front ++ token.Question ∷ (ta.front ++ token.Colon ∷ tb.front)) ++ three.0.rest = placed t.front c.rest (ta.front ++ token.Colon ∷ tb.front) three.0.rest ts token.Question t.parts (after_is token.Question c.rest us o_is ∙ ap (λ (x : List Token). token.Question ∷ x) behind) in
       let lt : c.height < suc b = ltb-true _ _ g.0 in
       subst (λ (x : Found). Takes level.Conditional (suc b) ts x) (is_some (chosen c one.0 three.0) p three.2)
       (record { front = t.front ++ token.Question ∷ (ta.front ++ token.Colon ∷ tb.front); parts = whole; part = conditional t.part ta.part tb.part; low = omega (arith, ta.low, tb.low) })

@@ -1,16 +1,16 @@
 -- Reading by levels finds each part of the grammar.
 use Rattle.std.proofs.Common.{◌≡◌, ◌≢◌, ℕ, zero, suc, ◌+◌, ◌≤◌, ◌<◌, max, Bool, false, leb, eqb, List, [], ◌∷◌, ◌++◌, Option, Some, None, refl, sym, ap, subst, ◌∙◌, arith, append_assoc}
 use Rattle.std.proofs.lemmas.Bool.{lt-ltb, lt-leb, leb-false, eq-eqb, ne_eqb}
-use Rattle.gettext.specs.declared.expression.Operator.{Operator}
-use Rattle.gettext.specs.declared.expression.Operator.TheVariants as operator
-use Rattle.gettext.specs.declared.expression.tokens.Token.{Token}
-use Rattle.gettext.specs.declared.expression.tokens.Token.TheVariants as token
-use Rattle.gettext.specs.declared.expression.grammar.Level.{Level}
-use Rattle.gettext.specs.declared.expression.grammar.Level.TheVariants as level
+use Rattle.gettext.specs.declared.plurals.expression.Operator.{Operator}
+use Rattle.gettext.specs.declared.plurals.expression.Operator.TheVariants as operator
+use Rattle.gettext.specs.declared.plurals.tokens.Token.{Token}
+use Rattle.gettext.specs.declared.plurals.tokens.Token.TheVariants as token
+use Rattle.gettext.specs.declared.plurals.grammar.Level.{Level}
+use Rattle.gettext.specs.declared.plurals.grammar.Level.TheVariants as level
 use Rattle.gettext.specs.Optional.{◌>>=◌}
 use Rattle.gettext.specs.Expression.{Expression, Binary}
 use Rattle.gettext.specs.Grammar.{rank, tighter, level_of, IsPart, name, numeral, parentheses, negation, binary, conditional, looser}
-use Rattle.gettext.specs.Parsing.{Found, Parser, parse, at_level, atom, after_close, after_bang, after_question, unary, operator_at, more, chain, choice, closed, negated, units, products, sums, relations, equalities, conjunctions, disjunctions}
+use Rattle.gettext.specs.Parsing.{after, Found, Parser, parse, at_level, atom, unary, operator_at, more, chain, choice, closed, negated, units, products, sums, relations, equalities, conjunctions, disjunctions}
 
 -- ---- where a part of a level ends
 
@@ -86,7 +86,7 @@ no_operator l (token.Bang ∷ r) s = refl
 this_operator : (l : Level) (o : Operator) (r : List Token) → level_of o ≡ l → operator_at l (token.Operator o ∷ r) ≡ Some (o, r)
 this_operator l o r e = rw (e, eq-eqb (rank l) (rank l) refl) refl
 
-no_question : (r : List Token) → Stops level.Conditional r → after_question r ≡ None
+no_question : (r : List Token) → Stops level.Conditional r → after token.Question r ≡ None
 no_question [] s = refl
 no_question (token.Operator o ∷ r) s = refl
 no_question (token.Question ∷ r) s = absurd cc
@@ -129,11 +129,11 @@ atom_complete b inside all = record { finds = go } where
   go ts e h numeral le r s = refl
   go ts e h (parentheses {ts = us} {e = f} {h = g} d) le r s =
       let k : inside ((us ++ token.Close ∷ []) ++ r) ≡ Some (found f g (token.Close ∷ r)) = ap inside (append_assoc us (token.Close ∷ []) r) ∙ all.finds us f g d (omega arith) (token.Close ∷ r) refl in
-      ap (λ (o : Option Found). o >>= λ p. after_close p.rest >>= λ us. Some (closed p us)) k
+      ap (λ (o : Option Found). o >>= λ p. after token.Close p.rest >>= λ us. Some (closed p us)) k
   go ts e h (binary {o = o} at x y) le r s = absurd (not_atom o at)
   go ts e h (looser ne d) le r s = absurd (ne refl)
 
-no_bang_before : (ts : List Token) (e : Expression) (h : ℕ) → IsPart level.Atom ts e h → (r : List Token) → after_bang (ts ++ r) ≡ None
+no_bang_before : (ts : List Token) (e : Expression) (h : ℕ) → IsPart level.Atom ts e h → (r : List Token) → after token.Bang (ts ++ r) ≡ None
 no_bang_before ts e h name r = refl
 no_bang_before ts e h numeral r = refl
 no_bang_before ts e h (parentheses d) r = refl

@@ -31,7 +31,8 @@ no_separator (x ∷ xs) h =
     let first : is_separator x ≡ false = ne_eqb x 4 (λ e. h 0 (omega arith) e) in
     rw first (no_separator xs (λ i l. h (suc i) (omega arith)))
 
-encode-no_separator : (c : ℕ) → (c ≡ 4 → ⊥) → list_any is_separator (encode_utf8 c) ≡ false
+-- the bytes of another character than U+0004 have no byte 4
+pub encode-no_separator : (c : ℕ) → (c ≡ 4 → ⊥) → list_any is_separator (encode_utf8 c) ≡ false
 encode-no_separator c ne = no_separator (encode_utf8 c) (λ i l e. ne (inside_one c [] (encode_utf8 c) i (sym (append-nil (encode_utf8 c))) l (omega (arith, e)) ∙ e))
 
 no_bytes : (c : ℕ) (t : List ℕ) → (length (encode_utf8_all (c ∷ t)) == 0) ≡ false

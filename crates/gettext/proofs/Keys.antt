@@ -12,7 +12,7 @@ use Rattle.std.proofs.lemmas.Map.Keys.{sorted_head, sorted_tail, Less-from_sorte
 use Rattle.std.proofs.lemmas.Map.Text.{is_eq-slice_cmp}
 use Rattle.std.proofs.lemmas.List.{get_or-map, length-map, get_or_default, take_min, drop_min}
 use Rattle.std.proofs.lemmas.Option.{slice_get-get_or}
-use Rattle.gettext.specs.declared.table.Row.{Row}
+use Rattle.gettext.specs.declared.spans.Row.{Row}
 use Rattle.writeable_core.specs.OrderingLaws.{then-assoc}
 use Rattle.writeable_core.specs.Texts.{same_text}
 use Rattle.gettext.specs.Table.{key_bytes, row_for, IsTable}

@@ -10,7 +10,7 @@ pub mod GrammarComplete
 pub mod Expressions
 pub mod Pieces
 pub mod Bounds
-pub mod Reading
+pub mod PushedRows
 pub mod Encodings
 pub mod Collecting
 pub mod MetadataFields
@@ -20,6 +20,7 @@ pub mod MetadataCuts
 pub mod DecodedRows
 pub mod MetadataSettings
 pub mod Ids
+pub mod KeyParts
 pub mod FirstRow
 pub mod ExpressionOf
 pub mod Meaning
@@ -27,5 +28,5 @@ pub mod Files
 pub mod FileRows
 pub mod Forms
 pub mod Faults
-pub mod SourceReading
+pub mod Parsed
 pub mod Alike

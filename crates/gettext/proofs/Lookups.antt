@@ -9,8 +9,8 @@ use Rattle.std.proofs.lemmas.Bool.Decides.{same_from_decides}
 use Rattle.std.proofs.lemmas.Slice.Eq.{bytes_eq-Decides}
 use Rattle.std.proofs.lemmas.List.{length-map, length-take, take-take, drop-take, drop-drop}
 use Rattle.std.proofs.lemmas.Str.{encode_ascii, encodes-append, encodes-chars, encodes_same, IsUtf8-from_is_utf8}
-use Rattle.gettext.specs.declared.table.Row.{Row}
-use Rattle.gettext.specs.declared.rule.PluralRule.{PluralRule}
+use Rattle.gettext.specs.declared.spans.Row.{Row}
+use Rattle.gettext.specs.declared.plurals.rule.PluralRule.{PluralRule}
 use Rattle.gettext.specs.Optional.{◌>>=◌}
 use Rattle.writeable_core.specs.Texts.{same_text}
 use Rattle.gettext.specs.Messages.{Messages, StandsFor, key_of, lookup, numbered, count_of_forms}

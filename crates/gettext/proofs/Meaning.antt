@@ -16,7 +16,9 @@ use Rattle.writeable_core.specs.Texts.{same_text}
 use Rattle.gettext.specs.Encoding.{is_valid, text_in}
 use Rattle.gettext.specs.Metadata.{Field, value_of}
 use Rattle.gettext.specs.Messages.{Message, Messages, Rule, Default, Expr, has_id}
-use Rattle.gettext.specs.Mo.{AreTexts, IsRow, AreRows, entries, head_of, pieces_of, original_of, translation_of, count_of, originals_of, translations_of, little_endian, big_endian, header_conditions, row_conditions, rows_conditions, metadata_conditions, all_rows_conditions, mo_fault, row_message, fields_in_file, header_fields, plural_of, IsRuleBy, rule_by, rule_of, named_encoding, first_encoding, later_encoding}
+use Rattle.gettext.specs.Layout.{head_of, pieces_of, original_of, translation_of, count_of, originals_of, translations_of, little_endian, big_endian}
+use Rattle.gettext.specs.Mo.{AreTexts, IsRow, AreRows, entries, row_message, fields_in_file, header_fields, plural_of, IsRuleBy, named_encoding, first_encoding, later_encoding}
+use Rattle.gettext.specs.Faults.{header_conditions, row_conditions, rows_conditions, metadata_conditions, all_rows_conditions, mo_fault, rule_by, rule_of}
 use Rattle.gettext.specs.Files.{found_fields}
 use Rattle.gettext.proofs.Encodings.{IsText-is, IsText-text_in}
 use Rattle.gettext.proofs.ExpressionOf.{expression_found, expression_is, some_mapped}

@@ -5,12 +5,13 @@ use Rattle.writeable_core.specs.FirstFailure.{first_failure}
 use Rattle.gettext.specs.declared.error.Error.TheVariants.{MalformedMetadata, PluralParsing, UnknownEncoding}
 use Rattle.gettext.specs.declared.encoding.Encoding.{Encoding}
 use Rattle.gettext.specs.declared.encoding.Encoding.TheVariants.{Utf8}
-use Rattle.gettext.specs.declared.settings.Settings.{Settings}
+use Rattle.gettext.specs.declared.parser.settings.Settings.{Settings}
 use Rattle.gettext.specs.Options.{Options}
 use Rattle.gettext.specs.Rule.{rule_shown}
 use Rattle.gettext.specs.Metadata.{Field, value_of}
 use Rattle.gettext.specs.Messages.{Rule, Default, Function}
-use Rattle.gettext.specs.Mo.{first_encoding, encoding_by, named_encoding, rule_by, rule_of, metadata_conditions}
+use Rattle.gettext.specs.Mo.{first_encoding, encoding_by, named_encoding}
+use Rattle.gettext.specs.Faults.{rule_by, rule_of, metadata_conditions}
 use Rattle.gettext.specs.Settings.{IsSettings, plurals_by}
 
 -- ---- without metadata

@@ -6,7 +6,7 @@ use Rattle.std.proofs.lemmas.List.{length-take, length-drop, drop-drop, take_all
 use Rattle.std.proofs.lemmas.List.Folds.{length-prefix_len}
 use Rattle.std.proofs.lemmas.List.Splits.{slice_split_first, slice_split_none}
 use Rattle.std.proofs.lemmas.List.Sums.{fails_before_first}
-use Rattle.gettext.specs.Mo.{is_nul, pieces_of}
+use Rattle.gettext.specs.Layout.{is_nul, pieces_of}
 
 -- the pieces from a number on are those of the text from a place on
 pub record IsAtPiece (text : List ℕ) (number start : ℕ) : Type 0 where

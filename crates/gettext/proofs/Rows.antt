@@ -12,10 +12,11 @@ use Rattle.gettext.specs.declared.error.Error.TheVariants.{DecodingError, Eof, M
 use Rattle.gettext.specs.declared.encoding.Encoding.{Encoding}
 use Rattle.gettext.specs.Encoding.{is_valid}
 use Rattle.gettext.specs.Messages.{has_id}
-use Rattle.gettext.specs.declared.table.Span.{Span}
-use Rattle.gettext.specs.Mo.{LiesInside, row_place, is_nul, head_of, head_conditions, pieces_of, originals_of, translations_of, original_of, translation_of, text_offset, text_length, text_conditions, forms_conditions, original_conditions, translation_conditions, row_conditions}
+use Rattle.gettext.specs.declared.spans.Span.{Span}
+use Rattle.gettext.specs.Layout.{LiesInside, row_place, is_nul, head_of, pieces_of, originals_of, translations_of, original_of, translation_of, text_offset, text_length}
+use Rattle.gettext.specs.Faults.{head_conditions, text_conditions, forms_conditions, original_conditions, translation_conditions, row_conditions}
 use Rattle.gettext.specs.Table.{key_bytes, form_bytes}
-use Rattle.gettext.specs.Reading.{text_span, head_span, row_of, IsTextSpan, IsRowIn, IsReadRow}
+use Rattle.gettext.specs.Reader.{text_span, head_span, row_of, IsTextSpan, IsRowIn, IsReadRow}
 
 -- ---- the bytes that the ranges of a row hold
 

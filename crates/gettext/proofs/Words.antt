@@ -12,8 +12,8 @@ use Rattle.std.proofs.lemmas.Slice.Eq.{bytes_eq-Decides}
 use Rattle.std.proofs.lemmas.Str.{digit_value_digit}
 use Rattle.std.proofs.lemmas.Str.Parse.{digit_at, digits_value-take-le}
 use Rattle.std.proofs.lemmas.Int.Digits.{digits_value_more}
-use Rattle.gettext.specs.declared.expression.tokens.Token.{Token}
-use Rattle.gettext.specs.declared.expression.tokens.Token.TheVariants.{Numeral}
+use Rattle.gettext.specs.declared.plurals.tokens.Token.{Token}
+use Rattle.gettext.specs.declared.plurals.tokens.Token.TheVariants.{Numeral}
 use Rattle.gettext.specs.Tokens.{words, word_at, measured, numeral_at, token_at, is_space, Reads, ends, space, token, IsUnreadable}
 
 ge_ltb : (a b : ℕ) → (a < b → ⊥) → ltb a b ≡ false

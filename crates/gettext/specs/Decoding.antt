@@ -2,11 +2,11 @@
 use Rattle.std.specs.Prelude.{◌≡◌, ℕ, ◌+◌, List, [], ◌∷◌, ◌++◌, length, map}
 use Rattle.std.specs.List.{AllByRecursion}
 use Rattle.gettext.specs.declared.encoding.Encoding.{Encoding}
-use Rattle.gettext.specs.declared.table.Row.{Row}
+use Rattle.gettext.specs.declared.spans.Row.{Row}
 use Rattle.gettext.specs.Encoding.{text_in, utf8_in}
 use Rattle.gettext.specs.Messages.{Message}
 use Rattle.gettext.specs.Table.{bytes_at, key_bytes, form_bytes, message_at, IsRowOf}
-use Rattle.gettext.specs.Reading.{IsRowIn}
+use Rattle.gettext.specs.Reader.{IsRowIn}
 
 -- the rows are valid, the first in one encoding and the others in another
 abbrev pub AreRowsIn : List ℕ → Encoding → Encoding → List Row → Type 0

@@ -1,10 +1,10 @@
 -- Plural expressions as trees, and their meaning over unsigned numbers of 64 bits, as in C
 -- (GNU gettext manual, 'Additional functions for plural forms').
 use Rattle.std.specs.Prelude.{ℕ, ◌+◌, ◌-◌, ◌*◌, ◌/◌, ◌%◌, ◌^◌, Bool, not, ◌&&◌, ◌||◌, Option, Some, None, ◌==◌, nat_lt, nat_le, if◌then◌else◌}
-use Rattle.gettext.specs.declared.expression.Ast.{Ast}
-use Rattle.gettext.specs.declared.expression.Ast.TheVariants.{N, Integer, Ternary', Op', Not'}
-use Rattle.gettext.specs.declared.expression.Operator.{Operator}
-use Rattle.gettext.specs.declared.expression.Operator.TheVariants.{Equal, NotEqual, GreaterOrEqual, SmallerOrEqual, Greater, Smaller, And, Or, Modulo, Add, Subtract, Multiply, Divide}
+use Rattle.gettext.specs.declared.plurals.expression.Ast.{Ast}
+use Rattle.gettext.specs.declared.plurals.expression.Ast.TheVariants.{N, Integer, Ternary', Op', Not'}
+use Rattle.gettext.specs.declared.plurals.expression.Operator.{Operator}
+use Rattle.gettext.specs.declared.plurals.expression.Operator.TheVariants.{Equal, NotEqual, GreaterOrEqual, SmallerOrEqual, Greater, Smaller, And, Or, Modulo, Add, Subtract, Multiply, Divide}
 use Rattle.gettext.specs.Optional.{◌>>=◌}
 
 -- an expression, without where its parts lie in memory

@@ -2,17 +2,17 @@
 use Rattle.std.specs.Prelude.{◌≡◌, ℕ, zero, suc, Bool, true, false, ◌&&◌, List, [], Option, Some, None, Vec}
 use Rattle.std.specs.Option.{unwrap_or}
 use Rattle.std.specs.declared.alloc.Global.{Global}
-use Rattle.gettext.specs.declared.file.File.{File}
+use Rattle.gettext.specs.declared.parser.reader.File.{File}
 use Rattle.gettext.specs.declared.encoding.Encoding.{Encoding}
 use Rattle.gettext.specs.declared.encoding.Encoding.TheVariants.{Utf8, Latin1, Windows1252}
-use Rattle.gettext.specs.declared.settings.Settings.{Settings}
-use Rattle.gettext.specs.declared.table.Row.{Row}
+use Rattle.gettext.specs.declared.parser.settings.Settings.{Settings}
+use Rattle.gettext.specs.declared.spans.Row.{Row}
 use Rattle.gettext.specs.Options.{Options}
 use Rattle.gettext.specs.Metadata.{Field}
 use Rattle.gettext.specs.Messages.{Messages, StandsFor}
 use Rattle.gettext.specs.Mo.{entries, first_encoding, fields_in_file, IsInUtf8}
 use Rattle.gettext.specs.Table.{held, messages_of, Keeps}
-use Rattle.gettext.specs.Reading.{rows_from}
+use Rattle.gettext.specs.Reader.{rows_from}
 use Rattle.gettext.specs.Decoding.{AreRowsIn}
 use Rattle.gettext.specs.Settings.{IsSettings}
 

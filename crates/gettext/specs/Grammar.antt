@@ -1,11 +1,11 @@
 -- The grammar of plural expressions in levels, as in C (GNU gettext manual, 'Additional functions for plural forms').
 use Rattle.std.specs.Prelude.{◌≡◌, ◌≢◌, ℕ, ◌+◌, ◌≤◌, max, List, [], ◌∷◌, ◌++◌}
-use Rattle.gettext.specs.declared.expression.Operator.{Operator}
-use Rattle.gettext.specs.declared.expression.Operator.TheVariants.{Equal, NotEqual, GreaterOrEqual, SmallerOrEqual, Greater, Smaller, And, Or, Modulo, Add, Subtract, Multiply, Divide}
-use Rattle.gettext.specs.declared.expression.tokens.Token.{Token}
-use Rattle.gettext.specs.declared.expression.tokens.Token.TheVariants as token
-use Rattle.gettext.specs.declared.expression.grammar.Level.{Level}
-use Rattle.gettext.specs.declared.expression.grammar.Level.TheVariants as level
+use Rattle.gettext.specs.declared.plurals.expression.Operator.{Operator}
+use Rattle.gettext.specs.declared.plurals.expression.Operator.TheVariants.{Equal, NotEqual, GreaterOrEqual, SmallerOrEqual, Greater, Smaller, And, Or, Modulo, Add, Subtract, Multiply, Divide}
+use Rattle.gettext.specs.declared.plurals.tokens.Token.{Token}
+use Rattle.gettext.specs.declared.plurals.tokens.Token.TheVariants as token
+use Rattle.gettext.specs.declared.plurals.grammar.Level.{Level}
+use Rattle.gettext.specs.declared.plurals.grammar.Level.TheVariants as level
 use Rattle.gettext.specs.Expression.{Expression, Count, Number, Negation, Binary, Conditional}
 use Rattle.gettext.specs.Tokens.{Reads}
 

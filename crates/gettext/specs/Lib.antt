@@ -1,5 +1,6 @@
 pub mod Optional
 pub mod Encoding
+pub mod Errors
 pub mod Options
 pub mod Metadata
 pub mod Expression
@@ -8,12 +9,13 @@ pub mod Grammar
 pub mod Parsing
 pub mod Messages
 pub mod Rule
+pub mod Layout
 pub mod Mo
+pub mod MoLaws
+pub mod Faults
 pub mod Settings
 pub mod Table
-pub mod Reading
+pub mod Reader
 pub mod Decoding
 pub mod Files
-pub mod ReadErrors
-pub mod Sources
-pub mod Fault
+pub mod Parse

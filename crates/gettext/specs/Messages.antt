@@ -2,6 +2,8 @@
 use Rattle.std.specs.Prelude.{◌≡◌, ℕ, Bool, true, false, not, ◌&&◌, List, [], ◌∷◌, ◌++◌, length, codes, Option, Some, None, ◌==◌, nat_lt, if◌then◌else◌, encode_utf8_all}
 use Rattle.std.specs.Option.{option_or, option_map, option_and_then}
 use Rattle.std.specs.List.{slice_get}
+use Rattle.std.specs.Borrow.{Bor}
+use Rattle.std.specs.Str.{chars}
 use Rattle.gettext.specs.Optional.{◌>>=◌}
 use Rattle.writeable_core.specs.Texts.{same_text}
 use Rattle.gettext.specs.Expression.{Expression, value}
@@ -30,6 +32,14 @@ abbrev pub key_of : Option (List ℕ) → List ℕ → List ℕ
 key_of None id = id
 key_of (Some context) id = context ++ 4 ∷ id
 
+-- the key of a context that is borrowed and an id, both in UTF-8
+abbrev pub key_asked : Option (Bor (List ℕ)) → List ℕ → List ℕ
+key_asked context id = key_of (option_map (λ s. chars s.now) context) (chars id)
+
+-- the same key in UTF-8
+abbrev pub key_bytes_asked : Option (Bor (List ℕ)) → List ℕ → List ℕ
+key_bytes_asked context id = key_of (option_map (λ s. s.now) context) id
+
 -- whether the first U+0004 is the last character
 abbrev pub ends_context : List ℕ → Bool
 ends_context [] = false
@@ -51,12 +61,21 @@ pub record StandsFor (kept c : Messages) : Type 0 where
 
 -- ---- forms
 
--- The number of the form for n. The default rule is 0 for 1, and 1 for every other count; a forced function answers
--- by itself.
+-- the number of the form for n by an expression, or by the default rule: 0 for 1, and 1 for every other count
+abbrev pub value_by : Option Expression → ℕ → Option ℕ
+value_by None n = Some (if n == 1 then 0 else 1)
+value_by (Some e) n = value e n
+
+-- the number of the form for n by the rule of a file, which doesn't tell that of a forced function
 abbrev pub value_of_rule : Rule → ℕ → Option ℕ
-value_of_rule Default n = Some (if n == 1 then 0 else 1)
-value_of_rule (Expr e) n = value e n
+value_of_rule Default n = value_by None n
+value_of_rule (Expr e) n = value_by (Some e) n
 value_of_rule Function n = None
+
+-- The number of the form for n. Where a function is forced, the number that it answered at n is given.
+abbrev pub number_for : Rule → Option ℕ → ℕ → Option ℕ
+number_for rule (Some number) n = Some number
+number_for rule None n = value_of_rule rule n
 
 -- the message with an empty id, which has the metadata
 abbrev pub header_of : List Message → Option Message
@@ -101,10 +120,11 @@ numbered c key number = do
 unfoldable pub numbered_within : Messages → List ℕ → ℕ → Option (ℕ × List ℕ)
 numbered_within c key number = if is_within (bound c) number then numbered c key number else None
 
--- the form for n of the message with the key, as its number and its text
-unfoldable pub form : Messages → List ℕ → ℕ → Option (ℕ × List ℕ)
-form c key n = do
-  number ← value_of_rule c.rule n
+-- The form for n of the message with the key, as its number and its text. Given is the number that a forced function
+-- answered at n, where one is forced.
+unfoldable pub form : Messages → Option ℕ → List ℕ → ℕ → Option (ℕ × List ℕ)
+form c given key n = do
+  number ← number_for c.rule given n
   numbered_within c key number
 
 -- how many forms the message with the key has

@@ -1,93 +1,17 @@
--- MO files (GNU gettext manual, section 10.3): what stands where in the bytes of a file, and what it means.
--- Numbers have four bytes, in the order that the magic number names.
-use Rattle.std.specs.Prelude.{◌≡◌, ◌⊎◌, ℕ, zero, suc, ◌+◌, ◌*◌, ◌≤◌, ◌<◌, Bool, true, false, ◌||◌, List, [], ◌∷◌, ◌++◌, length, take, drop, map, codes, Option, Some, None, is_some, nat_le, ◌==◌, if◌then◌else◌, encode_utf8_all}
-use Rattle.std.specs.Int.{w32, from_le_bytes, from_be_bytes}
-use Rattle.std.specs.List.{before_first, slice_get, slice_split, list_any, list_all}
-use Rattle.std.specs.Option.{option_map, option_and_then, unwrap_or}
+-- What an MO file means (GNU gettext manual, section 10.3).
+use Rattle.std.specs.Prelude.{◌≡◌, ◌⊎◌, ℕ, suc, ◌≤◌, ◌<◌, Bool, true, false, ◌||◌, List, [], ◌∷◌, length, take, map, codes, Option, Some, None, ◌==◌, if◌then◌else◌, encode_utf8_all}
+use Rattle.std.specs.List.{slice_get, list_any}
+use Rattle.std.specs.Option.{option_and_then, unwrap_or}
 use Rattle.std.specs.Str.{chars}
-use Rattle.writeable_core.specs.FirstFailure.{Condition, first_failure}
-use Rattle.gettext.specs.declared.error.Error.{Error}
-use Rattle.gettext.specs.declared.error.Error.TheVariants.{BadMagic, DecodingError, Eof, MalformedMetadata, MisplacedMetadata, PluralParsing, UnknownEncoding}
 use Rattle.gettext.specs.declared.encoding.Encoding.{Encoding}
 use Rattle.gettext.specs.declared.encoding.Encoding.TheVariants.{Utf8}
-use Rattle.writeable_core.specs.Texts.{same_text}
 use Rattle.gettext.specs.Options.{Options}
-use Rattle.gettext.specs.Encoding.{IsText, is_valid, text_in, encoding_of}
+use Rattle.gettext.specs.Encoding.{IsText, text_in, encoding_of}
 use Rattle.gettext.specs.Metadata.{Field, fields_of, value_of, charset_in, plural_in}
 use Rattle.gettext.specs.Expression.{Expression}
 use Rattle.gettext.specs.Grammar.{expr}
-use Rattle.gettext.specs.Parsing.{expression_of}
 use Rattle.gettext.specs.Messages.{Message, Messages, Rule, Default, Expr, Function, has_id}
-
--- ---- where things stand
-
--- what ends a text
-abbrev pub is_nul : ℕ → Bool
-is_nul byte = byte == 0
-
--- the magic number of a file whose numbers have the least significant byte first
-abbrev pub little_endian : List ℕ
-little_endian = 0xde ∷ 0x12 ∷ 0x04 ∷ 0x95 ∷ []
-
--- the magic number of a file whose numbers have the most significant byte first
-abbrev pub big_endian : List ℕ
-big_endian = 0x95 ∷ 0x04 ∷ 0x12 ∷ 0xde ∷ []
-
--- whether a file's numbers have the most significant byte first, as its magic number names it
-abbrev pub is_big_endian : List ℕ → Bool
-is_big_endian b = same_text (take 4 b) big_endian
-
--- the number whose four bytes begin at a place
-unfoldable pub number : List ℕ → ℕ → ℕ
-number b at = if is_big_endian b then from_be_bytes w32 (take 4 (drop at b)) else from_le_bytes w32 (take 4 (drop at b))
-
--- how many strings there are, and where the table of the originals and that of the translations start
-abbrev pub count_of : List ℕ → ℕ
-count_of b = number b 8
-
--- where the table of the originals starts
-abbrev pub originals_of : List ℕ → ℕ
-originals_of b = number b 12
-
--- where the table of the translations starts
-abbrev pub translations_of : List ℕ → ℕ
-translations_of b = number b 16
-
--- Row i of the table that starts at a place is the length of a text, and behind it the text's offset.
-abbrev pub row_place : ℕ → ℕ → ℕ
-row_place table i = table + 8 * i
-
--- how long the text of row i is
-abbrev pub text_length : List ℕ → ℕ → ℕ → ℕ
-text_length b table i = number b (row_place table i)
-
--- where the text of row i stands
-abbrev pub text_offset : List ℕ → ℕ → ℕ → ℕ
-text_offset b table i = number b (row_place table i + 4)
-
--- the bytes of the text of row i, and the same with the closing byte
-abbrev pub text_of : List ℕ → ℕ → ℕ → List ℕ
-text_of b table i = take (text_length b table i) (drop (text_offset b table i) b)
-
--- the bytes of the text of row i, and the closing byte
-abbrev pub closed_text_of : List ℕ → ℕ → ℕ → List ℕ
-closed_text_of b table i = take (text_length b table i + 1) (drop (text_offset b table i) b)
-
--- the original of row i with its closing byte, and the translation without
-abbrev pub original_of : List ℕ → ℕ → List ℕ
-original_of b i = closed_text_of b (originals_of b) i
-
--- the translation of row i without its closing byte
-abbrev pub translation_of : List ℕ → ℕ → List ℕ
-translation_of b i = text_of b (translations_of b) i
-
--- what stands before the first NUL of an original; behind it stands the plural id
-unfoldable pub head_of : List ℕ → List ℕ
-head_of original = before_first is_nul original
-
--- the forms of a translation stand between its NULs
-unfoldable pub pieces_of : List ℕ → List (List ℕ)
-pieces_of translation = slice_split is_nul translation
+use Rattle.gettext.specs.Layout.{is_nul, little_endian, big_endian, count_of, originals_of, translations_of, original_of, translation_of, head_of, pieces_of, LiesInside}
 
 -- ---- the metadata
 
@@ -146,11 +70,6 @@ AreTexts e (bytes ∷ pieces) (text ∷ texts) = IsText e bytes text × AreTexts
 AreTexts e [] (text ∷ texts) = ⊥
 AreTexts e (bytes ∷ pieces) [] = ⊥
 
--- row i of a table, and its text with the closing byte, lie inside the file
-pub record LiesInside (b : List ℕ) (table i : ℕ) : Type 0 where
-  pub row : row_place table i + 8 ≤ length b
-  pub text : text_offset b table i + text_length b table i + 1 ≤ length b
-
 -- What row i of the file says is the message. Byte 4 is U+0004 in each encoding, so the head says the whole key: the
 -- context, U+0004 and the id, or the id. An id is empty at row 0 alone.
 pub record IsRow (b : List ℕ) (e : Encoding) (i : ℕ) (m : Message) : Type 0 where
@@ -180,63 +99,7 @@ pub record entries (b : List ℕ) (o : Options) (c : Messages) : Type 0 where
   pub rows : AreRows b (first_encoding o) encoding 0 c.pairs
   pub rule : IsRule o fields c.rule
 
--- ---- what is wrong with a file
-
--- what may be wrong with the bytes of a file
-abbrev pub IsMoFault : Error → Type 0
-IsMoFault BadMagic = Unit {0}
-IsMoFault DecodingError = Unit {0}
-IsMoFault Eof = Unit {0}
-IsMoFault MalformedMetadata = Unit {0}
-IsMoFault MisplacedMetadata = Unit {0}
-IsMoFault PluralParsing = Unit {0}
-IsMoFault UnknownEncoding = Unit {0}
-IsMoFault e = ⊥
-
--- the conditions of the header: its length, its magic number, and where the tables start
-unfoldable pub header_conditions : List ℕ → List (Condition Error)
-header_conditions b =
-    (nat_le 28 (length b), Eof)
-    ∷ (same_text (take 4 b) little_endian || same_text (take 4 b) big_endian, BadMagic)
-    ∷ (nat_le (originals_of b) (length b), Eof)
-    ∷ (nat_le (translations_of b) (length b), Eof)
-    ∷ []
-
--- of row i of a table, and of its text
-unfoldable pub text_conditions : List ℕ → ℕ → ℕ → List (Condition Error)
-text_conditions b table i =
-    (nat_le (row_place table i + 8) (length b), Eof)
-    ∷ (nat_le (text_offset b table i + text_length b table i + 1) (length b), Eof)
-    ∷ []
-
--- of an original of row i, given in bytes
-unfoldable pub head_conditions : Encoding → ℕ → List ℕ → List (Condition Error)
-head_conditions e i original =
-    (list_any is_nul original, Eof)
-    ∷ (is_valid e (head_of original), DecodingError)
-    ∷ ((i == 0) || has_id (head_of original), MisplacedMetadata)
-    ∷ []
-
--- of a translation, given in bytes
-unfoldable pub forms_conditions : Encoding → List ℕ → List (Condition Error)
-forms_conditions e translation = (list_all (is_valid e) (pieces_of translation), DecodingError) ∷ []
-
--- of row i among the originals
-unfoldable pub original_conditions : List ℕ → Encoding → ℕ → List (Condition Error)
-original_conditions b e i = text_conditions b (originals_of b) i ++ head_conditions e i (original_of b i)
-
--- of row i among the translations
-unfoldable pub translation_conditions : List ℕ → Encoding → ℕ → List (Condition Error)
-translation_conditions b e i = text_conditions b (translations_of b) i ++ forms_conditions e (translation_of b i)
-
--- of row i
-unfoldable pub row_conditions : List ℕ → Encoding → ℕ → List (Condition Error)
-row_conditions b e i = original_conditions b e i ++ translation_conditions b e i
-
--- of n rows from row i on
-unfoldable pub rows_conditions : List ℕ → Encoding → ℕ → ℕ → List (Condition Error)
-rows_conditions b e i zero = []
-rows_conditions b e i (suc n) = row_conditions b e i ++ rows_conditions b e (suc i) n
+-- ---- the encodings of a file's rows
 
 -- the message of a row of texts in an encoding
 unfoldable pub row_message : List ℕ → Encoding → ℕ → Message
@@ -246,37 +109,9 @@ row_message b e i = record { key = text_in e (head_of (original_of b i)); forms 
 unfoldable pub fields_in_file : List ℕ → Options → Option (List Field)
 fields_in_file b o = header_fields (row_message b (first_encoding o) 0 ∷ [])
 
--- the same as a function: none where the text is no expression
-abbrev pub rule_by : Bool → Option (List ℕ) → Option Rule
-rule_by true plural = Some Function
-rule_by false None = Some Default
-rule_by false (Some plural) = option_map Expr (expression_of (chars plural))
-
--- the rule of a file with these fields, where there is one
-abbrev pub rule_of : Options → List Field → Option Rule
-rule_of o fields = rule_by o.forced (plural_of fields)
-
--- of the metadata
-unfoldable pub metadata_conditions : Options → Option (List Field) → List (Condition Error)
-metadata_conditions o fields =
-    (is_some fields, MalformedMetadata)
-    ∷ (is_some (named_encoding o (unwrap_or fields [])), UnknownEncoding)
-    ∷ (is_some (rule_of o (unwrap_or fields [])), PluralParsing)
-    ∷ []
-
 -- the encoding of the rows behind row 0
 unfoldable pub later_encoding : List ℕ → Options → Encoding
 later_encoding b o = unwrap_or (named_encoding o (unwrap_or (fields_in_file b o) [])) Utf8
-
--- of n rows
-unfoldable pub all_rows_conditions : List ℕ → Options → ℕ → List (Condition Error)
-all_rows_conditions b o zero = []
-all_rows_conditions b o (suc n) =
-    row_conditions b (first_encoding o) 0 ++ (metadata_conditions o (fields_in_file b o) ++ rows_conditions b (later_encoding b o) 1 n)
-
--- the first condition that fails
-unfoldable pub mo_fault : List ℕ → Options → Option Error
-mo_fault b o = first_failure (header_conditions b ++ all_rows_conditions b o (count_of b))
 
 -- the encoding of row i
 abbrev pub encoding_at : List ℕ → Options → ℕ → Encoding

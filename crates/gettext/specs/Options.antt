@@ -1,7 +1,7 @@
 -- How a file is asked to be read.
 use Rattle.std.specs.Prelude.{Bool, false, Option, None}
 use Rattle.gettext.specs.declared.encoding.Encoding.{Encoding}
-pub use Rattle.gettext.specs.declared.options.Options.{Options}
+pub use Rattle.gettext.specs.declared.parser.options.Options.{Options}
 
 -- nothing is forced
 abbrev pub plain_options : Options

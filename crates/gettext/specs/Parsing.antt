@@ -1,14 +1,14 @@
 -- Reading an expression from left to right, as a function. The grammar decides: `expression_of` finds the tree that it has
 -- for a text, and none where it has none (the law `one_tree`). Conditions cite that, and private contracts the rest.
-use Rattle.std.specs.Prelude.{◌≡◌, ℕ, zero, suc, ◌+◌, max, List, [], ◌∷◌, length, drop, Option, Some, None, Result, MatchResult, ◌⊎◌, nat_lt, ◌==◌, if◌then◌else◌}
+use Rattle.std.specs.Prelude.{◌≡◌, ℕ, zero, suc, ◌+◌, max, Bool, true, false, List, [], ◌∷◌, length, drop, Option, Some, None, Result, MatchResult, ◌⊎◌, nat_lt, ◌==◌, if◌then◌else◌}
 use Rattle.gettext.specs.declared.error.Error.{Error}
 use Rattle.gettext.specs.declared.error.Error.TheVariants.{NoMemory, PluralParsing}
-use Rattle.gettext.specs.declared.expression.Operator.{Operator}
-use Rattle.gettext.specs.declared.expression.tokens.Token.{Token}
-use Rattle.gettext.specs.declared.expression.tokens.Token.TheVariants as token
-use Rattle.gettext.specs.declared.expression.grammar.Level.{Level}
-use Rattle.gettext.specs.declared.expression.grammar.Part.{Part}
-use Rattle.gettext.specs.declared.expression.grammar.Level.TheVariants as level
+use Rattle.gettext.specs.declared.plurals.expression.Operator.{Operator}
+use Rattle.gettext.specs.declared.plurals.tokens.Token.{Token}
+use Rattle.gettext.specs.declared.plurals.tokens.Token.TheVariants as token
+use Rattle.gettext.specs.declared.plurals.grammar.Level.{Level}
+use Rattle.gettext.specs.declared.plurals.grammar.Part.{Part}
+use Rattle.gettext.specs.declared.plurals.grammar.Level.TheVariants as level
 use Rattle.gettext.specs.Optional.{◌>>=◌}
 use Rattle.gettext.specs.Expression.{tree_of, Expression, Count, Number, Negation, Binary, Conditional}
 use Rattle.std.specs.Option.{option_map}
@@ -33,30 +33,19 @@ Parser = List Token → Option Found
 abbrev pub IsParsed : {X : Type 0} → (X → Found) → Result X Error → Option Found → Type 0
 IsParsed view result found = MatchResult result (λ x. found ≡ Some (view x)) (λ e. (e ≡ NoMemory) ⊎ ((e ≡ PluralParsing) × (found ≡ None)))
 
--- the tokens behind a `!` at the front
-abbrev pub after_bang : List Token → Option (List Token)
-after_bang (token.Bang ∷ ts) = Some ts
-after_bang ts = None
+-- whether a token is that mark
+abbrev pub is_mark : Token → Token → Bool
+is_mark token.Bang token.Bang = true
+is_mark token.Open token.Open = true
+is_mark token.Close token.Close = true
+is_mark token.Question token.Question = true
+is_mark token.Colon token.Colon = true
+is_mark mark t = false
 
--- the tokens behind an opening parenthesis at the front
-abbrev pub after_open : List Token → Option (List Token)
-after_open (token.Open ∷ ts) = Some ts
-after_open ts = None
-
--- the tokens behind a closing parenthesis at the front
-abbrev pub after_close : List Token → Option (List Token)
-after_close (token.Close ∷ ts) = Some ts
-after_close ts = None
-
--- the tokens behind a `?` at the front
-abbrev pub after_question : List Token → Option (List Token)
-after_question (token.Question ∷ ts) = Some ts
-after_question ts = None
-
--- the tokens behind a `:` at the front
-abbrev pub after_colon : List Token → Option (List Token)
-after_colon (token.Colon ∷ ts) = Some ts
-after_colon ts = None
+-- the tokens behind a mark at the front
+abbrev pub after : Token → List Token → Option (List Token)
+after mark [] = None
+after mark (t ∷ ts) = if is_mark mark t then Some ts else None
 
 -- an operator of that level at the front, and the tokens behind it
 abbrev pub operator_at : Level → List Token → Option (Operator × List Token)
@@ -81,11 +70,11 @@ closed p ts = record { tree = p.tree; height = p.height + 1; rest = ts }
 abbrev pub atom_or : Parser → Option Found → Option (List Token) → Option Found
 atom_or inside (Some p) opened = Some p
 atom_or inside None None = None
-atom_or inside None (Some ts) = inside ts >>= λ p. after_close p.rest >>= λ us. Some (closed p us)
+atom_or inside None (Some ts) = inside ts >>= λ p. after token.Close p.rest >>= λ us. Some (closed p us)
 
 -- a part of the tightest level
 abbrev pub atom : Parser → Parser
-atom inside ts = atom_or inside (leaf_at ts) (after_open ts)
+atom inside ts = atom_or inside (leaf_at ts) (after token.Open ts)
 
 -- the negation of a part
 abbrev pub negated : Found → Found
@@ -98,7 +87,7 @@ unary_or inner (Some ts) tight = inner ts >>= λ p. Some (negated p)
 
 -- a part of the level of `!`
 abbrev pub unary : Parser → Parser → Parser
-unary inner tight ts = unary_or inner (after_bang ts) (tight ts)
+unary inner tight ts = unary_or inner (after token.Bang ts) (tight ts)
 
 -- two parts with an operator between them
 abbrev pub joined : Operator → Found → Found → Found
@@ -126,11 +115,11 @@ chosen c a b = record { tree = Conditional c.tree a.tree b.tree; height = max c.
 abbrev pub choice_at : Parser → ℕ → Found → Option (List Token) → Option Found
 choice_at inner budget c None = Some c
 choice_at inner budget c (Some ts) =
-    if nat_lt c.height budget then (inner ts >>= λ a. after_colon a.rest >>= λ us. inner us >>= λ b. Some (chosen c a b)) else None
+    if nat_lt c.height budget then (inner ts >>= λ a. after token.Colon a.rest >>= λ us. inner us >>= λ b. Some (chosen c a b)) else None
 
 -- a part of the loosest level
 abbrev pub choice : Parser → Parser → ℕ → Parser
-choice inner first budget ts = first ts >>= λ c. choice_at inner budget c (after_question c.rest)
+choice inner first budget ts = first ts >>= λ c. choice_at inner budget c (after token.Question c.rest)
 
 -- the level of `!`
 abbrev pub units : (Level → Parser) → Parser

@@ -1,6 +1,6 @@
 -- The plural rule of a file, as the code keeps it.
-use Rattle.gettext.specs.declared.rule.PluralRule.{PluralRule}
-use Rattle.gettext.specs.declared.rule.PluralRule.TheVariants as kept
+use Rattle.gettext.specs.declared.plurals.rule.PluralRule.{PluralRule}
+use Rattle.gettext.specs.declared.plurals.rule.PluralRule.TheVariants as kept
 use Rattle.gettext.specs.Expression.{tree_of}
 use Rattle.gettext.specs.Messages.{Rule, Default, Expr, Function}
 

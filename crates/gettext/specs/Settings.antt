@@ -2,12 +2,13 @@
 use Rattle.std.specs.Prelude.{◌≡◌, ℕ, Bool, true, false, List, Option, Some, None, Result, MatchResult, ◌⊎◌}
 use Rattle.gettext.specs.declared.error.Error.{Error}
 use Rattle.gettext.specs.declared.error.Error.TheVariants.{NoMemory}
-use Rattle.gettext.specs.declared.settings.Settings.{Settings}
+use Rattle.gettext.specs.declared.parser.settings.Settings.{Settings}
 use Rattle.gettext.specs.Options.{Options}
 use Rattle.gettext.specs.Rule.{rule_shown}
 use Rattle.gettext.specs.Metadata.{Field}
 use Rattle.gettext.specs.Messages.{plurals_among}
-use Rattle.gettext.specs.Mo.{named_encoding, rule_of}
+use Rattle.gettext.specs.Mo.{named_encoding}
+use Rattle.gettext.specs.Faults.{rule_of}
 
 -- what bounds the numbers of forms, unless a function is forced
 abbrev pub plurals_by : Bool → List Field → Option ℕ

@@ -6,13 +6,13 @@ use Rattle.std.specs.List.Sorted.{IsStrictlySortedBy}
 use Rattle.std.specs.Ordering.{nat_cmp}
 use Rattle.std.specs.Cmp.Lexicographic.{slice_cmp}
 use Rattle.std.specs.Str.{is_utf8, chars}
-use Rattle.gettext.specs.declared.table.Span.{Span}
-use Rattle.gettext.specs.declared.table.Row.{Row}
+use Rattle.gettext.specs.declared.spans.Span.{Span}
+use Rattle.gettext.specs.declared.spans.Row.{Row}
 use Rattle.writeable_core.specs.Texts.{same_text}
 use Rattle.gettext.specs.Messages.{Message, Messages, lookup, bound, has_id}
-use Rattle.gettext.specs.declared.rule.PluralRule.{PluralRule}
+use Rattle.gettext.specs.declared.plurals.rule.PluralRule.{PluralRule}
 use Rattle.gettext.specs.Rule.{rule_shown}
-use Rattle.gettext.specs.Mo.{pieces_of}
+use Rattle.gettext.specs.Layout.{pieces_of}
 
 -- what clauses see of the entries of a catalog
 pub record Held : Type 0 where

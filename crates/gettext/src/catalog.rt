@@ -1,28 +1,33 @@
 //! Catalogs of messages, and the look-up of a message's form.
+//!
+//! - `table`: how a catalog keeps its messages.
 
-ghost use Rattle.std.specs.Prelude.{◌≡◌, ℕ, ◌==◌, ◌⊎◌, ◌↔◌, ◌≤◌, List, [], length, true, Option, Some, None, Result, IfOk, IfErr, IfSome, MatchResult, IsErrAnd, IsErrOf, if◌then◌else◌};
+mod table;
+
+ghost use Rattle.std.specs.Prelude.{◌≡◌, ℕ, ◌==◌, ◌↔◌, List, [], Option, Some, None, Result, if◌then◌else◌};
 ghost use Rattle.std.specs.Option.{option_map};
 ghost use Rattle.std.specs.Str.{chars};
-ghost use Rattle.reading.specs.Reading.{IsReadToEnd};
 ghost use Rattle.gettext.specs.declared.error.Error.{Error};
-ghost use Rattle.gettext.specs.declared.error.Error.TheVariants.{Io, NoMemory, TooLong};
-ghost use Rattle.writeable_core.specs.Sink.{Rose};
-ghost use Rattle.gettext.specs.Messages.{Messages, StandsFor, Default, key_of, numbered, numbered_within, form, count_of_forms, own_words, text_or};
-ghost use Rattle.gettext.specs.Mo.{IsInUtf8, IsMoFault, entries, mo_fault};
+ghost use Rattle.gettext.specs.Messages.{Message, Messages, StandsFor, Default, key_of, key_asked, numbered, form, count_of_forms, own_words, text_or};
+ghost use Rattle.gettext.specs.declared.encoding.Encoding.{Encoding};
+ghost use Rattle.gettext.specs.Layout.{head_of, original_of};
+ghost use Rattle.gettext.specs.Mo.{IsRow, entries};
+ghost use Rattle.gettext.specs.MoLaws.{IsKeyOf};
+ghost use Rattle.gettext.specs.Faults.{IsMoFault, mo_fault};
 ghost use Rattle.gettext.specs.Options.{Options, plain_options};
-ghost use Rattle.gettext.specs.Sources.{ComesAtEnd, IsReadFault, most_bytes, source_fault};
+ghost use Rattle.gettext.specs.Parse.{ParsesBytes, ParsesSource};
 ghost use Rattle.gettext.specs.Table.{IsRangeOf, messages_of};
 
 use crate::error::Error;
-use crate::parse_options::ParseOptions;
-use crate::resolver::{FileRule, PluralFunction};
-use crate::table::Table;
+use crate::parser::ParseOptions;
+use crate::plurals::{FileRule, FormRule};
 use std::alloc::Global;
+pub use table::Table;
 use writeable_core::Source;
 
 /// The messages of one language, as an MO file holds them.
 ///
-/// The plural rule is the file's, or, where `P` is [`PluralFunction`], a function that is forced.
+/// The plural rule is the file's, or, where `P` is `PluralFunction`, a function that is forced.
 #[derive(Drop)]
 pub struct Catalog<P = FileRule> {
     pub(crate) entries: Table,
@@ -52,121 +57,38 @@ impl Catalog {
     /// The messages of an MO file that a source gives. The source is read to its end, and
     /// 67,108,864 bytes at most.
     pub fn parse<S: Source>(alloc: Global, source: &mut S) -> Result<Catalog, Error>
-        // A file that means something is read as that, unless the source or memory fails.
-        ensures ok { IfSome (S.left source.old)
-            (λ bytes. (c : Messages) → length bytes ≤ most_bytes → entries bytes plain_options c
-            → MatchResult result
-            (λ catalog. StandsFor (messages_of catalog.entries) c) IsReadFault) }
-
-        // What is read means something.
-        ensures sound { IfOk result (λ catalog. IfSome (S.left source.old)
-            (λ bytes. (length bytes ≤ most_bytes)
-            × (c : Messages) × entries bytes plain_options c
-            × StandsFor (messages_of catalog.entries) c)) }
-        ensures buffer { IfOk result (λ catalog. IfSome (S.left source.old)
-            (λ bytes. IsInUtf8 bytes plain_options → catalog.entries.buffer ≡ bytes)) }
-
-        // The answer is the one that the source's bytes have, unless the source or memory fails.
-        ensures exact { IfSome (S.left source.old)
-            (λ bytes. MatchResult result (λ _. source_fault bytes plain_options ≡ None)
-            (λ e. IsReadFault e ⊎ (source_fault bytes plain_options ≡ Some e))) }
-        ensures io { IfErr result (λ e. e ≡ Io → Rose (S.faults source.old) (S.faults source.new)) }
-        ensures later { S.faults source.old ≤ S.faults source.new }
-
-        // The source was read to its end, and no read failed.
-        ensures read_to_end { IfErr result ComesAtEnd
-            → IsReadToEnd S.left S.ended S.faults source.old source.new }
-        ensures no_fault { IsErrOf result TooLong → S.faults source.new ≡ S.faults source.old }
+        ensures { ParsesSource S.left S.ended S.faults source.old source.new
+            result (λ catalog. catalog.entries) plain_options }
     {
         ParseOptions::new().parse(alloc, source)
     }
 
     /// The messages of an MO file (GNU gettext manual, section 10.3). Of equal keys the last row counts.
     pub fn parse_bytes(alloc: Global, bytes: &[u8]) -> Result<Catalog, Error>
-        // A file that means something is read as that, unless memory runs out.
-        ensures ok { (c : Messages) → entries bytes.now plain_options c
-            → MatchResult result (λ catalog. StandsFor (messages_of catalog.entries) c)
-            (λ e. e ≡ NoMemory) }
-
-        // A fault is the first condition that fails, unless memory runs out.
-        ensures err { (fault : Error) → mo_fault bytes.now plain_options ≡ Some fault
-            → IsErrAnd result (λ e. (e ≡ NoMemory) ⊎ (e ≡ fault)) }
-
-        // What is read means something.
-        ensures sound { IfOk result (λ catalog. (c : Messages) × entries bytes.now plain_options c
-            × StandsFor (messages_of catalog.entries) c) }
-        ensures cause { MatchResult result (λ _. mo_fault bytes.now plain_options ≡ None)
-            (λ e. (e ≡ NoMemory) ⊎ (mo_fault bytes.now plain_options ≡ Some e)) }
-        ensures buffer { IfOk result (λ catalog. IsInUtf8 bytes.now plain_options
-            → catalog.entries.buffer ≡ bytes.now) }
+        ensures { ParsesBytes result (λ catalog. catalog.entries) bytes.now plain_options }
     {
         ParseOptions::new().parse_bytes(alloc, bytes)
     }
+}
 
+impl<P: FormRule> Catalog<P> {
     /// The form for `n` of the message with that context and id. Nothing is joined and nothing copied.
     pub fn find(&self, context: Option<&str>, id: &str, n: u64) -> Option<Form<'_>>
         ensures found { (c : Messages) → StandsFor (messages_of self.now.entries) c
-            → option_map (λ f. (f.number, chars f.text.now)) result
-            ≡ form c (key_of (option_map (λ s. chars s.now) context.entry) (chars id.now)) n }
-    {
-        let number = self.entries.number(n)?;
-        let text = self.entries.form_within(context, id, number)?;
-        Some(Form { number, text })
-    }
-
-    /// The form for `n` of the message with that id, or the id for 1, and the plural id otherwise.
-    pub fn ngettext<'a>(&'a self, msg_id: &'a str, msg_id_plural: &'a str, n: u64) -> &'a str
-        ensures text { (c : Messages) → StandsFor (messages_of self.now.entries) c
-            → chars result.now
-            ≡ text_or (form c (chars msg_id.now) n)
-            (own_words n (chars msg_id.now) (chars msg_id_plural.now)) }
-    {
-        match self.find(None, msg_id, n) {
-            Some(form) => form.text,
-            None => own_words(msg_id, msg_id_plural, n),
-        }
-    }
-
-    /// The form for `n` of the message with that context and id, or the id for 1, and the plural id
-    /// otherwise.
-    pub fn npgettext<'a>(
-        &'a self,
-        msg_context: &'a str,
-        msg_id: &'a str,
-        msg_id_plural: &'a str,
-        n: u64,
-    ) -> &'a str
-        ensures text { (c : Messages) → StandsFor (messages_of self.now.entries) c
-            → chars result.now
-            ≡ text_or (form c (key_of (Some (chars msg_context.now)) (chars msg_id.now)) n)
-            (own_words n (chars msg_id.now) (chars msg_id_plural.now)) }
-    {
-        match self.find(Some(msg_context), msg_id, n) {
-            Some(form) => form.text,
-            None => own_words(msg_id, msg_id_plural, n),
-        }
-    }
-}
-
-impl Catalog<PluralFunction> {
-    /// The form for `n` of the message with that context and id. Nothing is joined and nothing copied.
-    pub fn find(&self, context: Option<&str>, id: &str, n: u64) -> Option<Form<'_>>
-        ensures found { (c : Messages) → StandsFor (messages_of self.now.entries) c → (k : ℕ)
-            × post self.now.plural.plural n k
+            → (given : Option ℕ) × P.answers self.now.plural n given
             × (option_map (λ f. (f.number, chars f.text.now)) result
-            ≡ numbered_within c
-            (key_of (option_map (λ s. chars s.now) context.entry) (chars id.now)) k) }
+            ≡ form c given (key_asked context.entry id.now) n) }
     {
-        let number = self.plural.call(n);
+        let number = self.entries.number(n, self.plural.forced_number(n))?;
         let text = self.entries.form_within(context, id, number)?;
         Some(Form { number, text })
     }
 
     /// The form for `n` of the message with that id, or the id for 1, and the plural id otherwise.
     pub fn ngettext<'a>(&'a self, msg_id: &'a str, msg_id_plural: &'a str, n: u64) -> &'a str
-        ensures text { (c : Messages) → StandsFor (messages_of self.now.entries) c → (k : ℕ)
-            × post self.now.plural.plural n k
-            × (chars result.now ≡ text_or (numbered_within c (chars msg_id.now) k)
+        ensures text { (c : Messages) → StandsFor (messages_of self.now.entries) c
+            → (given : Option ℕ) × P.answers self.now.plural n given
+            × (chars result.now ≡ text_or (form c given (chars msg_id.now) n)
             (own_words n (chars msg_id.now) (chars msg_id_plural.now))) }
     {
         match self.find(None, msg_id, n) {
@@ -184,11 +106,10 @@ impl Catalog<PluralFunction> {
         msg_id_plural: &'a str,
         n: u64,
     ) -> &'a str
-        ensures text { (c : Messages) → StandsFor (messages_of self.now.entries) c → (k : ℕ)
-            × post self.now.plural.plural n k
+        ensures text { (c : Messages) → StandsFor (messages_of self.now.entries) c
+            → (given : Option ℕ) × P.answers self.now.plural n given
             × (chars result.now
-            ≡ text_or (numbered_within c
-            (key_of (Some (chars msg_context.now)) (chars msg_id.now)) k)
+            ≡ text_or (form c given (key_of (Some (chars msg_context.now)) (chars msg_id.now)) n)
             (own_words n (chars msg_id.now) (chars msg_id_plural.now))) }
     {
         match self.find(Some(msg_context), msg_id, n) {
@@ -202,8 +123,7 @@ impl<P: Drop> Catalog<P> {
     /// How many forms the message with that context and id has.
     pub fn form_count(&self, context: Option<&str>, id: &str) -> Option<usize>
         ensures count { (c : Messages) → StandsFor (messages_of self.now.entries) c
-            → result ≡ count_of_forms c
-            (key_of (option_map (λ s. chars s.now) context.entry) (chars id.now)) }
+            → result ≡ count_of_forms c (key_asked context.entry id.now) }
     {
         self.entries.form_count(context, id)
     }
@@ -212,8 +132,7 @@ impl<P: Drop> Catalog<P> {
     pub fn form_text(&self, context: Option<&str>, id: &str, number: usize) -> Option<&str>
         ensures text { (c : Messages) → StandsFor (messages_of self.now.entries) c
             → option_map (λ text. (number, chars text.now)) result
-            ≡ numbered c (key_of (option_map (λ s. chars s.now) context.entry)
-            (chars id.now)) number }
+            ≡ numbered c (key_asked context.entry id.now) number }
     {
         self.entries.form(context, id, number)
     }
@@ -227,8 +146,7 @@ impl<P: Drop> Catalog<P> {
     ) -> Option<(usize, usize)>
         ensures range { (c : Messages) → StandsFor (messages_of self.now.entries) c
             → IsRangeOf self.now.entries.buffer result
-            (numbered c (key_of (option_map (λ s. chars s.now) context.entry)
-            (chars id.now)) number) }
+            (numbered c (key_asked context.entry id.now) number) }
     {
         self.entries.form_range(context, id, number)
     }
@@ -276,6 +194,8 @@ pub fn one_meaning()
         → c ≡ d }
     ensures alike { (b : List ℕ) (o : Options) (c kept : Messages) → entries b o c
         → StandsFor kept c
-        → (key : List ℕ) (n : ℕ) → form kept key n ≡ form c key n }
+        → (given : Option ℕ) (key : List ℕ) (n : ℕ) → form kept given key n ≡ form c given key n }
+    ensures parts { (b : List ℕ) (e : Encoding) (i : ℕ) (m : Message) → IsRow b e i m
+        → IsKeyOf e (head_of (original_of b i)) m.key }
     ensures faults { (b : List ℕ) (o : Options) (e : Error) → mo_fault b o ≡ Some e → IsMoFault e }
 {}

@@ -1,46 +1,34 @@
 //! Why a catalog could not be read.
 
-ghost use Rattle.std.specs.Prelude.{◌≡◌};
+ghost use Rattle.std.specs.Prelude.{◌≡◌, Some};
 ghost use Rattle.gettext.specs.declared.error.Error.TheVariants.{NoMemory};
-ghost use Rattle.gettext.specs.ReadErrors.{error_of};
-ghost use Rattle.gettext.specs.Fault.{words_of};
+ghost use Rattle.gettext.specs.Errors.{words_of};
 
-use reading::ReadError;
 use std::alloc::{AllocError, AllocFailed};
-use thiserror::Error;
+use std::fmt;
 
 /// What is wrong with the bytes of a file, or with reading them.
-#[derive(Clone, Copy, Debug, PartialEq, Eq, Error)]
+#[derive(Clone, Copy, Debug, PartialEq, Eq)]
 pub enum Error {
     /// The file doesn't begin with the magic number of MO files.
-    #[error("bad magic number")]
     BadMagic,
     /// A text isn't valid in its encoding.
-    #[error("invalid byte sequence in a string")]
     DecodingError,
     /// Something that the file names lies past its end.
-    #[error("unxpected end of file")]
     Eof,
     /// The source failed.
-    #[error("the source failed")]
     Io,
     /// A line of the metadata has no colon.
-    #[error("metadata syntax error")]
     MalformedMetadata,
     /// An empty id stands past the first row.
-    #[error("misplaced metadata")]
     MisplacedMetadata,
     /// A plural expression isn't in the grammar.
-    #[error("invalid plural expression")]
     PluralParsing,
     /// The metadata names an encoding that isn't known.
-    #[error("unknown encoding specified")]
     UnknownEncoding,
     /// The source has more bytes than are read.
-    #[error("the source has too many bytes")]
     TooLong,
     /// Memory ran out.
-    #[error("out of memory")]
     NoMemory,
 }
 
@@ -80,14 +68,12 @@ impl<T: Drop> From<AllocFailed<T>> for Error {
     }
 }
 
-impl From<ReadError> for Error {
-    ghost from_gives = { λ r e. e ≡ error_of r };
+impl fmt::Display for Error {
+    ghost output = { λ e. Some (words_of e) };
 
-    fn from(e: ReadError) -> Error {
-        match e {
-            ReadError::Fault => Error::Io,
-            ReadError::TooLong => Error::TooLong,
-            ReadError::NoMemory => Error::NoMemory,
-        }
+    fn fmt<W: fmt::Write>(&self, f: &mut fmt::Formatter<W>) -> fmt::Result {
+        f.pad(self.text())
     }
 }
+
+impl std::error::Error for Error {}

@@ -35,7 +35,7 @@ chosen_past_tag b q isnt none =
 form_in-kept : (text : BundleText) (kept : Meaning) (k : KeepsMeaning text kept) (q : Request) (locale : List ℕ)
     → form_in kept q locale ≡ form_in k.meaning q locale
 form_in-kept text kept k q locale =
-    ap (λ l. cond (same_text l locale) (form kept.messages (key_of q.context q.singular) q.count) None) (k.locale ∙ sym k.means.locale)
+    ap (λ l. cond (same_text l locale) (form kept.messages None (key_of q.context q.singular) q.count) None) (k.locale ∙ sym k.means.locale)
     ∙ ap (λ f. cond (same_text k.meaning.locale locale) f None) (k.alike (key_of q.context q.singular) q.count)
 
 chosen-along : (kept meaning : Meaning) (q : Request) → ((locale : List ℕ) → form_in kept q locale ≡ form_in meaning q locale)

@@ -2,7 +2,8 @@
 use Rattle.std.specs.Prelude.{◌≡◌, ℕ, suc, List, [], ◌∷◌, Option, Some, None}
 use Rattle.gettext.specs.declared.error.Error.{Error}
 use Rattle.gettext.specs.Messages.{form}
-use Rattle.gettext.specs.Mo.{entries, mo_fault}
+use Rattle.gettext.specs.Mo.{entries}
+use Rattle.gettext.specs.Faults.{mo_fault}
 use Rattle.gettext.specs.Options.{plain_options}
 use Rattle.localise.specs.Meaning.{Meaning}
 use Rattle.localise.specs.declared.bundle.BundleText.{BundleText}
@@ -29,7 +30,7 @@ pub record KeepsMeaning (text : BundleText) (kept : Meaning) : Type 0 where
   pub meaning : Meaning
   pub means : Means text meaning
   pub locale : kept.locale ≡ text.tag
-  pub alike : (key : List ℕ) (n : ℕ) → form kept.messages key n ≡ form meaning.messages key n
+  pub alike : (key : List ℕ) (n : ℕ) → form kept.messages None key n ≡ form meaning.messages None key n
 
 -- what is kept of the bundles gives each request what the bundles mean
 pub record Localises (texts : List BundleText) (kept : List Meaning) : Type 0 where

@@ -23,7 +23,7 @@ pub record Translation : Type 0 where
 
 -- the form that a bundle gives the request in a locale: none where the locale isn't its own
 abbrev pub form_in : Meaning → Request → List ℕ → Option (ℕ × List ℕ)
-form_in b q locale = if same_text b.locale locale then form b.messages (key_of q.context q.singular) q.count else None
+form_in b q locale = if same_text b.locale locale then form b.messages None (key_of q.context q.singular) q.count else None
 
 -- a form of bundle i
 abbrev pub numbered_from : ℕ → Option (ℕ × List ℕ) → Option Translation

@@ -1,6 +1,6 @@
 -- The words of a refusal: those of the error that it carries, or its own.
 use Rattle.std.specs.Prelude.{ℕ, List, codes}
-use Rattle.gettext.specs.Fault.{words_of}
+use Rattle.gettext.specs.Errors.{words_of}
 use Rattle.localise.specs.declared.error.BundleCause.{BundleCause}
 use Rattle.localise.specs.declared.error.BundleCause.TheVariants.{Mo}
 use Rattle.localise.specs.declared.error.RenderError.{RenderError}

@@ -1,7 +1,7 @@
 ghost use Rattle.std.specs.Prelude.{◌≡◌, ◌≢◌, Some, None, IfOk, IfErr};
 ghost use Rattle.std.specs.Option.{option_map};
 ghost use Rattle.std.specs.Str.{chars};
-ghost use Rattle.gettext.specs.Mo.{mo_fault};
+ghost use Rattle.gettext.specs.Faults.{mo_fault};
 ghost use Rattle.writeable_core.specs.Texts.{same_text};
 ghost use Rattle.gettext.specs.Options.{plain_options};
 ghost use Rattle.localise.specs.Bundles.{KeepsMeaning};

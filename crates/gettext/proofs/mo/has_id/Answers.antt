@@ -1,6 +1,0 @@
-use Rattle.std.proofs.Common.{sym, ◌∙◌, refl}
-use Rattle.gettext.proofs.Conditions.{ends-place}
-use Rattle.gettext.proofs.mo.has_id.Goals as goal
-
-pub returns-then-not-is_empty : goal.returns-then-not-is_empty
-returns-then-not-is_empty c = rw (sym c.is_empty.ensures ∙ c.if-not-is_empty.true, c.separator_place.ensures.value, ends-place c.args.key.now) refl

@@ -1,5 +1,0 @@
-use Rattle.gettext.proofs.Reading.{IsPushing}
-use Rattle.gettext.proofs.mo.push_rows.Given as goal
-
-abbrev pub invariant-loop-index : goal.invariant-loop-index
-invariant-loop-index l = IsPushing l.initial.rows.items l.rows.items l.bytes l.encoding l.first l.header.count l.index

@@ -1,6 +1,0 @@
-use Rattle.std.proofs.Common.{take}
-use Rattle.gettext.specs.Reading.{Collects}
-use Rattle.gettext.proofs.sorting.by_key.Given as goal
-
-abbrev pub invariant-loop-row : goal.invariant-loop-row
-invariant-loop-row l = Collects l.buffer (take l.row-index l.rows) l.found
