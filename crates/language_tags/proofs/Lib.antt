@@ -3,3 +3,4 @@ mod AgreeLaws
 mod KeptUse
 mod ExtensionLaws
 mod ValidLaws
+mod CanonLaws
