@@ -4,3 +4,4 @@ mod KeptUse
 mod ExtensionLaws
 mod ValidLaws
 mod CanonLaws
+mod WrittenLaws

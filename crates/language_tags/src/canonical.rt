@@ -1,5 +1,5 @@
 //! The canonical form of a tag over a registry.
-ghost use Rattle.std.specs.Prelude.{◌≡◌, ◌≢◌, ◌⊎◌, ◌≤◌, ◌++◌, ℕ, List, [], Option, Some, None, IfOk, IfErr, IfSome, OnOk, IsTrue, if◌then◌else◌, is_some, length, map, string_bytes, unwrap_or};
+ghost use Rattle.std.specs.Prelude.{◌≡◌, ◌≢◌, ◌⊎◌, ◌≤◌, ◌++◌, ◌∷◌, ℕ, List, [], Option, Some, None, IfOk, IfErr, IfSome, OnOk, IsTrue, if◌then◌else◌, is_some, length, map, string_bytes, unwrap_or};
 ghost use Rattle.std.specs.List.{AllByRecursion, flat_map, list_all};
 ghost use Rattle.std.specs.List.Sorted.{IsPermutation, IsSortedBy};
 ghost use Rattle.std.specs.Option.{option_copied, option_map};
@@ -191,9 +191,7 @@ impl LanguageTag {
     {
         for subtag in self.variant_subtags() {
             let variant = replaced(registry, RegistryTable::VariantsPreferred, subtag);
-            if !contains(SubtagsIter::new(Some(text.as_str())), variant) {
-                push_part(text, Some(variant))?;
-            }
+            push_variant(text, variant)?;
         }
         Ok(())
     }
@@ -278,4 +276,18 @@ fn push_part(text: &mut String, part: Option<&str>) -> Result<(), AllocError>
         }
         None => Ok(()),
     }
+}
+
+/// Appends a variant, but where such a piece stands there already.
+fn push_variant(text: &mut String, variant: &str) -> Result<(), AllocError>
+    requires { IsTrue (is_variant variant.now) }
+    ensures text { OnOk result (string_bytes text.new ≡ string_bytes text.old
+        ++ dashed (not_written (pieces (string_bytes text.old)) (variant.now ∷ []))) }
+    ensures pieces { OnOk result (pieces (string_bytes text.new) ≡ pieces (string_bytes text.old)
+        ++ not_written (pieces (string_bytes text.old)) (variant.now ∷ [])) }
+{
+    if contains(SubtagsIter::new(Some(text.as_str())), variant) {
+        return Ok(());
+    }
+    push_part(text, Some(variant))
 }
