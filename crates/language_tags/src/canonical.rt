@@ -1,16 +1,17 @@
 //! The canonical form of a tag over a registry.
-ghost use Rattle.std.specs.Prelude.{◌≡◌, ◌≢◌, ◌⊎◌, ◌≤◌, ◌++◌, ◌∷◌, ℕ, List, [], Option, Some, None, IfOk, IfErr, IfSome, OnOk, IsTrue, if◌then◌else◌, is_some, length, map, string_bytes, unwrap_or};
+ghost use Rattle.std.specs.Prelude.{◌≡◌, ◌≢◌, ◌⊎◌, ◌≤◌, ◌++◌, ◌∷◌, ℕ, List, [], Option, Some, None, true, IfOk, IfErr, IfSome, OnOk, IsTrue, if◌then◌else◌, is_some, length, map, string_bytes, unwrap_or};
 ghost use Rattle.std.specs.List.{AllByRecursion, flat_map, list_all};
 ghost use Rattle.std.specs.List.Sorted.{IsPermutation, IsSortedBy};
 ghost use Rattle.std.specs.Option.{option_copied, option_map};
 ghost use Rattle.language_tags_grammar.specs.Pieces.{dashed, pieces};
-ghost use Rattle.language_tags_grammar.specs.Shapes.{IsExtension, is_language, is_region, is_script, is_variant};
+ghost use Rattle.language_tags_grammar.specs.Shapes.{IsExtension, is_language, is_region, is_script, is_small, is_variant};
 ghost use Rattle.language_tags_grammar.specs.Tag.{Extension, Parts, Plain, at_most_one, extension_pieces, extensions_of, extlangs_of, language_of, print, region_of, script_of, variants_of};
 ghost use Rattle.language_tags_grammar.specs.TagOf.{IsTagOf};
 ghost use Rattle.language_tags_registry.specs.Kinds.{MeetsAny, kind_of};
 ghost use Rattle.language_tags_registry.specs.Registry.{table_of, value_of};
 ghost use Rattle.language_tags.specs.Canon.{AreCanonical, GoesTo, IsCanonOf, Rewrites, Stays, extlang_value, is_before, not_written, replaced, unless_suppressed};
-ghost use Rattle.language_tags.specs.CanonText.{IsShaped, dash_text};
+ghost use Rattle.language_tags.specs.Extensions.{item_of};
+ghost use Rattle.language_tags.specs.CanonText.{IsShaped, dash_text, dashed_items, is_item_before, pair_of};
 
 use crate::validity::{begins, contains};
 use crate::{LanguageTag, SubtagsIter, ValidationError};
@@ -202,17 +203,29 @@ impl LanguageTag {
         ensures { OnOk result ((es : List Extension) × IsPermutation (extensions_of self.now) es × IsSortedBy is_before es
             × AllByRecursion IsExtension es × (string_bytes text.new ≡ string_bytes text.old ++ dashed (flat_map extension_pieces es))) }
     {
-        let mut extensions = Vec::new(alloc);
-        for extension in self.extension_subtags() {
-            extensions.push(extension)?;
-        }
+        let extensions = self.sorted_extensions(alloc)?;
+        push_extensions(text, extensions.as_slice())
+    }
+
+    /// The extensions in their order, each its singleton and its content.
+    fn sorted_extensions<'a>(&'a self, alloc: Global) -> Result<Vec<(char, &'a str)>, AllocError>
+        ensures permutation { IfOk result (λ v. IsPermutation (map item_of (extensions_of self.now)) (map pair_of v.items)) }
+        ensures order { IfOk result (λ v. IsSortedBy is_item_before (map pair_of v.items)) }
+    {
+        let mut extensions = self.listed_extensions(alloc)?;
         extensions.sort_unstable();
-        for (singleton, content) in &extensions {
-            text.push_str("-")?;
-            text.push(*singleton)?;
-            push_part(text, Some(*content))?;
+        Ok(extensions)
+    }
+
+    /// The extensions, each its singleton and its content.
+    fn listed_extensions<'a>(&'a self, alloc: Global) -> Result<Vec<(char, &'a str)>, AllocError>
+        ensures { IfOk result (λ v. map pair_of v.items ≡ map item_of (extensions_of self.now)) }
+    {
+        let mut extensions = Vec::new(alloc);
+        for (singleton, content) in self.extension_subtags() {
+            extensions.push((singleton, content))?;
         }
-        Ok(())
+        Ok(extensions)
     }
 
     /// An equal tag.
@@ -290,4 +303,24 @@ fn push_variant(text: &mut String, variant: &str) -> Result<(), AllocError>
         return Ok(());
     }
     push_part(text, Some(variant))
+}
+
+/// Appends extensions, each with a dash before its singleton and before its content.
+fn push_extensions(text: &mut String, extensions: &[(char, &str)]) -> Result<(), AllocError>
+    requires { list_all (λ i. is_small i.0) extensions.now ≡ true }
+    ensures { OnOk result (string_bytes text.new ≡ string_bytes text.old ++ dashed_items (map pair_of extensions.now)) }
+{
+    for (singleton, content) in extensions {
+        push_extension(text, *singleton, *content)?;
+    }
+    Ok(())
+}
+
+fn push_extension(text: &mut String, singleton: char, content: &str) -> Result<(), AllocError>
+    requires { is_small singleton ≡ true }
+    ensures { OnOk result (string_bytes text.new ≡ string_bytes text.old ++ dashed_items ((singleton, content.now) ∷ [])) }
+{
+    text.push_str("-")?;
+    text.push(singleton)?;
+    push_part(text, Some(content))
 }

@@ -29,7 +29,7 @@ loop-subtag-preserved c =
     let new = string_bytes c.push_variant.new.text in
     let v = c.replaced-variant.result.now in
     let shape = replaced-variant v c.in-Some.subtag.now c.replaced-variant.ensures.shape
-        (head-variant c.loop-subtag.subtag-iterator c.next.new.self c.in-Some.subtag.now c.in-Some.ensures.steps c.loop-subtag.invariant.left) in record {
+    (head-variant c.loop-subtag.subtag-iterator c.next.new.self c.in-Some.subtag.now c.in-Some.ensures.steps c.loop-subtag.invariant.left) in record {
       text = variant-text f cur new c.in-Some.subtag.now v c.loop-subtag.subtag-iterator c.next.new.self c.in-Some.ensures.steps
           c.replaced-variant.ensures.value c.in_ok-push_variant.ensures.text c.in_ok-push_variant.ensures.pieces _ c.loop-subtag.invariant.text;
       shape = λ h. c.loop-subtag.invariant.shape (variant-shape f cur new c.in-Some.subtag.now v c.loop-subtag.subtag-iterator c.next.new.self
