@@ -3,3 +3,5 @@ mod AgreeLaws
 mod KeptUse
 mod ExtensionLaws
 mod ValidLaws
+mod CanonLaws
+mod WrittenLaws

@@ -1,0 +1,35 @@
+-- Which way a tag goes to its canonical form.
+use Rattle.std.proofs.Common.{◌≡◌, ◌≢◌, ℕ, Bool, true, false, List, Option, Some, None, Result, Ok, Err, MatchResult, refl, sym, ap, ◌∙◌, subst}
+use Rattle.std.specs.Prelude.{IfErr, IfOk}
+use Rattle.std.proofs.lemmas.Result.{IfOk-weaker, MatchResult-weaker}
+use Rattle.language_tags_grammar.specs.Grandfathered.{is_grandfathered}
+use Rattle.language_tags_grammar.specs.Tag.{Tag, print}
+use Rattle.language_tags_grammar.specs.TagOf.{IsTagOf}
+use Rattle.language_tags_registry.specs.Registry.{Tables, value_of}
+use Rattle.language_tags.specs.Canon.{GoesTo, IsCanonIn, IsCanonOf, Rewrites, Stays}
+use Rattle.language_tags.specs.PrivateUse.{is_private_use}
+
+module _ (R : Tables) (g : Tag) (r : Option Tag) where
+  pub canon_private : is_private_use g ≡ true → Stays g r → IsCanonOf R g r
+  canon_private e h = subst (λ b. IsCanonIn b (is_grandfathered (print g)) R g r) (sym e) h
+
+  pub canon_grandfathered : is_private_use g ≡ false → is_grandfathered (print g) ≡ true
+      → GoesTo (value_of R.grandfathereds_preferred (print g)) (Stays g) r → IsCanonOf R g r
+  canon_grandfathered e f h =
+      subst (λ b. IsCanonIn b (is_grandfathered (print g)) R g r) (sym e)
+      (subst (λ b. IsCanonIn false b R g r) (sym f) h)
+
+  pub canon_other : is_private_use g ≡ false → is_grandfathered (print g) ≡ false
+      → GoesTo (value_of R.redundants_preferred (print g)) (Rewrites R g) r → IsCanonOf R g r
+  canon_other e f h =
+      subst (λ b. IsCanonIn b (is_grandfathered (print g)) R g r) (sym e)
+      (subst (λ b. IsCanonIn false b R g r) (sym f) h)
+
+-- a tag goes to the text that there is, or otherwise
+pub goes_text : (o : Option (List ℕ)) (text : List ℕ) (Otherwise : Option Tag → Type 0) (tag : Tag) → Some text ≡ o
+    → IsTagOf text tag → GoesTo o Otherwise (Some tag)
+goes_text o text Otherwise tag e h = subst (λ q. GoesTo q Otherwise (Some tag)) e h
+
+pub goes_on : (o : Option (List ℕ)) (Otherwise : Option Tag → Type 0) (r : Option Tag) → None ≡ o → Otherwise r
+    → GoesTo o Otherwise r
+goes_on o Otherwise r e h = subst (λ q. GoesTo q Otherwise r) e h
