@@ -7,9 +7,9 @@ use Rattle.std.proofs.lemmas.Bool.Decides.{nat_tests}
 use Rattle.language_tags_grammar.specs.Pieces.{dashed, is_dash, pieces}
 use Rattle.language_tags_grammar.specs.Shapes.{AreParts, is_variant}
 use Rattle.language_tags_grammar.specs.Tag.{Tag, Whole, Plain, variants_of}
-use Rattle.language_tags_grammar.proofs.KeptLaws.{dashed-append, pieces-dashed, smalls-clean}
-use Rattle.language_tags_grammar.proofs.PartsLaws.{variant-small}
-use Rattle.language_tags_grammar.proofs.PieceLaws.{some_piece}
+use Rattle.language_tags_grammar.specs.Lemmas.KeptLaws.{dashed-append, pieces-dashed, smalls-clean}
+use Rattle.language_tags_grammar.specs.Lemmas.PartsLaws.{variant-small}
+use Rattle.language_tags_grammar.specs.Lemmas.PieceLaws.{some_piece}
 use Rattle.language_tags.specs.Canon.{not_written}
 use Rattle.language_tags.specs.CanonText.{IsShaped}
 
