@@ -1,10 +1,12 @@
 -- Which way a tag goes to its canonical form.
 use Rattle.std.proofs.Common.{◌≡◌, ◌≢◌, ℕ, Bool, true, false, List, Option, Some, None, Result, Ok, Err, MatchResult, refl, sym, ap, ◌∙◌, subst}
-use Rattle.std.specs.Prelude.{IfErr, IfOk}
+use Rattle.std.specs.Prelude.{IfErr, IfOk, is_some}
 use Rattle.std.proofs.lemmas.Result.{IfOk-weaker, MatchResult-weaker}
 use Rattle.language_tags_grammar.specs.Grandfathered.{is_grandfathered}
+use Rattle.language_tags_grammar.specs.Kept.{tag_at}
 use Rattle.language_tags_grammar.specs.Tag.{Tag, print}
 use Rattle.language_tags_grammar.specs.TagOf.{IsTagOf}
+use Rattle.language_tags_grammar.specs.declared.ends.Ends.{Ends}
 use Rattle.language_tags_registry.specs.Registry.{Tables, value_of}
 use Rattle.language_tags.specs.Canon.{GoesTo, IsCanonIn, IsCanonOf, Rewrites, Stays}
 use Rattle.language_tags.specs.PrivateUse.{is_private_use}
@@ -33,3 +35,9 @@ goes_text o text Otherwise tag e h = subst (λ q. GoesTo q Otherwise (Some tag))
 pub goes_on : (o : Option (List ℕ)) (Otherwise : Option Tag → Type 0) (r : Option Tag) → None ≡ o → Otherwise r
     → GoesTo o Otherwise r
 goes_on o Otherwise r e h = subst (λ q. GoesTo q Otherwise r) e h
+
+-- a whole text stays
+pub stays-whole : (R : Tables) (o : Option Ends) (text : List ℕ) (g tag : Tag) → is_some o ≡ false → tag_at o text ≡ g → tag ≡ g
+    → Rewrites R g (Some tag)
+stays-whole R None text g tag none view e = subst (λ q. Rewrites R q (Some tag)) view (ap Some (e ∙ sym view))
+stays-whole R (Some ends) text g tag none view e = cc

@@ -5,3 +5,5 @@ mod ExtensionLaws
 mod ValidLaws
 mod CanonLaws
 mod WrittenLaws
+mod ItemLaws
+mod BuiltLaws
