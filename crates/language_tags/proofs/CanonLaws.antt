@@ -1,14 +1,15 @@
 -- Which way a tag goes to its canonical form.
-use Rattle.std.proofs.Common.{◌≡◌, ◌≢◌, ℕ, Bool, true, false, List, Option, Some, None, Result, Ok, Err, MatchResult, refl, sym, ap, ◌∙◌, subst}
+use Rattle.std.proofs.Common.{◌≡◌, ◌≢◌, ◌≤◌, ℕ, Bool, true, false, List, length, Option, Some, None, Result, Ok, Err, MatchResult, refl, sym, ap, ◌∙◌, subst}
 use Rattle.std.specs.Prelude.{IfErr, IfOk, is_some}
 use Rattle.std.proofs.lemmas.Result.{IfOk-weaker, MatchResult-weaker}
 use Rattle.language_tags_grammar.specs.Grandfathered.{is_grandfathered}
-use Rattle.language_tags_grammar.specs.Kept.{tag_at}
-use Rattle.language_tags_grammar.specs.Tag.{Tag, print}
+use Rattle.language_tags_grammar.specs.Kept.{IsKept, tag_at}
+use Rattle.language_tags_grammar.specs.Tag.{Parts, Tag, Plain, extlangs_of, print}
 use Rattle.language_tags_grammar.specs.TagOf.{IsTagOf}
 use Rattle.language_tags_grammar.specs.declared.ends.Ends.{Ends}
 use Rattle.language_tags_registry.specs.Registry.{Tables, value_of}
-use Rattle.language_tags.specs.Canon.{GoesTo, IsCanonIn, IsCanonOf, Rewrites, Stays}
+use Rattle.language_tags.specs.Canon.{AreCanonical, GoesTo, IsCanonIn, IsCanonOf, Rewrites, Stays}
+use Rattle.language_tags.specs.CanonText.{IsShaped}
 use Rattle.language_tags.specs.PrivateUse.{is_private_use}
 
 module _ (R : Tables) (g : Tag) (r : Option Tag) where
@@ -41,3 +42,29 @@ pub stays-whole : (R : Tables) (o : Option Ends) (text : List ℕ) (g tag : Tag)
     → Rewrites R g (Some tag)
 stays-whole R None text g tag none view e = subst (λ q. Rewrites R q (Some tag)) view (ap Some (e ∙ sym view))
 stays-whole R (Some ends) text g tag none view e = cc
+
+-- any other tag has parts, which have their shapes
+pub plain-shaped : (o : Option Ends) (text : List ℕ) (g : Tag) → is_some o ≡ true → IsKept o text → tag_at o text ≡ g → IsShaped g
+plain-shaped None text g some h view = cc
+plain-shaped (Some ends) text g some h view = subst IsShaped view h.shapes
+
+module _ (R : Tables) (o : Option Ends) (text : List ℕ) (g : Tag) where
+  -- two extlangs refuse it
+  pub parts-refused : is_some o ≡ true → tag_at o text ≡ g → 2 ≤ length (extlangs_of g) → Rewrites R g None
+  parts-refused some view many = by o some view
+    where
+      by : (o : Option Ends) → is_some o ≡ true → tag_at o text ≡ g → Rewrites R g None
+      by None some view = cc
+      by (Some ends) some view =
+          subst (λ q. Rewrites R q None) view (subst (λ q. 2 ≤ length (extlangs_of q)) (sym view) many)
+
+  pub parts-rewritten : is_some o ≡ true → tag_at o text ≡ g → length (extlangs_of g) ≤ 1 → (q : Parts) → AreCanonical R g q
+      → (tag : Tag) → tag ≡ Plain q → Rewrites R g (Some tag)
+  parts-rewritten some view few q are tag is = by o some view
+    where
+      by : (o : Option Ends) → is_some o ≡ true → tag_at o text ≡ g → Rewrites R g (Some tag)
+      by None some view = cc
+      by (Some ends) some view =
+          subst (λ x. Rewrites R x (Some tag)) view
+          (subst (λ t. Rewrites R (tag_at (Some ends) text) (Some t)) (sym is)
+          (subst (λ x. length (extlangs_of x) ≤ 1) (sym view) few, subst (λ x. AreCanonical R x q) (sym view) are))
