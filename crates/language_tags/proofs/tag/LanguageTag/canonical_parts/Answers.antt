@@ -112,8 +112,7 @@ returns c =
       region_end = ap length c.as_str-region_end.ensures.value;
       variant_end = ap length c.as_str-variant_end.ensures.value;
       extension_end = ap length c.as_str-extension_end.ensures.value;
-    } in
-    (
+    } in (
       new_parts c.args.registry.now c.args.self.now text ends pushed,
       pushed-canonical c.args.registry.now c.args.self.now text ends pushed,
       c.of_parts.ensures ∙ ap Plain (pushed-parts c.args.registry.now c.args.self.now text ends pushed),

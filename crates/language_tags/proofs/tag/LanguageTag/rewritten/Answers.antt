@@ -23,9 +23,11 @@ canonical_parts-requires c = record {
 pub returns-then-not-has_few_extlangs : goal.returns-then-not-has_few_extlangs
 returns-then-not-has_few_extlangs c =
     let many : 2 ≤ length (extlangs_of c.args.self.now) = grind (arith, nat_tests, c.if-not-has_few_extlangs.ensures) in record {
-      err = λ _. (refl,
-          parts-refused c.args.registry.now c.self.inside.ends (string_bytes c.self.inside.text) c.args.self.now c.if-is_none.ensures
-          c.self.view_is many);
+      err = λ _. (
+        refl,
+        parts-refused c.args.registry.now c.self.inside.ends (string_bytes c.self.inside.text) c.args.self.now c.if-is_none.ensures
+            c.self.view_is many,
+      );
       ok = tt;
     }
 
