@@ -1,7 +1,6 @@
 -- Which way a tag goes to its canonical form.
-use Rattle.std.proofs.Common.{◌≡◌, ◌≢◌, ◌≤◌, ℕ, Bool, true, false, List, length, Option, Some, None, Result, Ok, Err, MatchResult, refl, sym, ap, ◌∙◌, subst}
-use Rattle.std.specs.Prelude.{IfErr, IfOk, is_some}
-use Rattle.std.proofs.lemmas.Result.{IfOk-weaker, MatchResult-weaker}
+use Rattle.std.proofs.Common.{◌≡◌, ◌≤◌, ℕ, true, false, List, length, Option, Some, None, sym, ap, ◌∙◌, subst}
+use Rattle.std.specs.Prelude.{is_some}
 use Rattle.language_tags_grammar.specs.Grandfathered.{is_grandfathered}
 use Rattle.language_tags_grammar.specs.Kept.{IsKept, tag_at}
 use Rattle.language_tags_grammar.specs.Tag.{Parts, Tag, Plain, extlangs_of, print}

@@ -1,11 +1,11 @@
 -- Pieces that are appended to a text.
-use Rattle.std.proofs.Common.{◌≡◌, ℕ, ◌<◌, Bool, true, false, ◌⊎◌, inl, inr, List, [], ◌∷◌, ◌++◌, length, refl, sym, ap, ◌∙◌, cond, arith, append_assoc, append-nil, subst, map}
+use Rattle.std.proofs.Common.{◌≡◌, ℕ, ◌<◌, Bool, true, false, ◌⊎◌, inl, inr, List, [], ◌∷◌, ◌++◌, length, refl, sym, ap, ◌∙◌, cond, arith, append_assoc, append-nil, map}
 use Rattle.std.specs.Prelude.{IsTrue, ◌&&◌}
 use Rattle.std.specs.List.{list_all, list_any, onto_first}
 use Rattle.std.specs.Str.{byte, bytes_eq}
 use Rattle.std.proofs.lemmas.Bool.Decides.{nat_tests}
 use Rattle.language_tags_grammar.specs.Pieces.{dashed, is_dash, pieces}
-use Rattle.language_tags_grammar.specs.Shapes.{AreParts, is_variant}
+use Rattle.language_tags_grammar.specs.Shapes.{is_variant}
 use Rattle.language_tags_grammar.specs.Tag.{Tag, Whole, Plain, variants_of}
 use Rattle.language_tags_grammar.specs.Lemmas.KeptLaws.{dashed-append, pieces-dashed, smalls-clean}
 use Rattle.language_tags_grammar.specs.Lemmas.PartsLaws.{variant-small}

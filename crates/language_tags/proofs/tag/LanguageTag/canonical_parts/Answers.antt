@@ -1,4 +1,4 @@
-use Rattle.std.proofs.Common.{◌≡◌, ◌++◌, string_bytes, ap, ◌∙◌, length}
+use Rattle.std.proofs.Common.{◌++◌, string_bytes, ap, ◌∙◌, length}
 use Rattle.std.specs.Option.{option_copied}
 use Rattle.language_tags_grammar.specs.Tag.{Plain}
 use Rattle.language_tags_grammar.specs.declared.ends.Ends.{Ends}

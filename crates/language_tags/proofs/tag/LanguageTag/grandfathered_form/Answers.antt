@@ -1,8 +1,8 @@
-use Rattle.std.proofs.Common.{Some, None, ap, ◌∙◌}
-use Rattle.std.proofs.lemmas.Result.{IfOk-weaker, MatchResult-weaker}
+use Rattle.std.proofs.Common.{Some, ap, ◌∙◌}
+use Rattle.std.proofs.lemmas.Result.{IfOk-weaker}
 use Rattle.language_tags_grammar.specs.Tag.{print}
 use Rattle.language_tags_registry.specs.Registry.{value_of}
-use Rattle.language_tags.specs.Canon.{Rewrites, Stays}
+use Rattle.language_tags.specs.Canon.{Stays}
 use Rattle.language_tags.proofs.CanonLaws.{goes_on, goes_text}
 use Rattle.language_tags.proofs.tag.LanguageTag.grandfathered_form.Goals as goal
 

@@ -1,8 +1,7 @@
-use Rattle.std.proofs.Common.{◌≡◌, ◌++◌, true, ap, sym, ◌∙◌, map, subst, string_bytes, List, ℕ, rules}
+use Rattle.std.proofs.Common.{◌++◌, ap, sym, ◌∙◌, map, string_bytes}
 use Rattle.std.specs.List.{list_all}
 use Rattle.language_tags_grammar.specs.Pieces.{dashed, pieces}
 use Rattle.language_tags_grammar.specs.Shapes.{is_variant}
-use Rattle.language_tags_grammar.specs.Tag.{variants_of}
 use Rattle.language_tags.specs.Canon.{not_written, replaced}
 use Rattle.language_tags.proofs.WrittenLaws.{all-done, head-variant, replaced-variant, shaped-variants, tail-variants, text-done, variant-shape, variant-text}
 use Rattle.language_tags.proofs.tag.LanguageTag.push_variants.Goals as goal
