@@ -3,3 +3,7 @@ mod AgreeLaws
 mod KeptUse
 mod ExtensionLaws
 mod ValidLaws
+mod CanonLaws
+mod WrittenLaws
+mod ItemLaws
+mod BuiltLaws

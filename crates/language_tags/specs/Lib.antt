@@ -8,5 +8,7 @@ pub use Rattle.language_tags_grammar.specs.TagFault
 pub mod Extensions
 pub mod PrivateUse
 pub mod Valid
+pub mod Canon
+pub mod CanonText
 pub mod Equality
 pub mod EqualityLaws

@@ -20,6 +20,7 @@
 //! this crate passes them on.
 #![tactic(auto)]
 
+mod canonical;
 mod error;
 mod extensions;
 mod part;

@@ -6,12 +6,13 @@ ghost use Rattle.language_tags.specs.Equality.{Agree};
 
 use crate::part::{front, part};
 use crate::validity::has_different_pieces;
-use crate::{ExtensionsIterator, ParseError, SubtagsIter, TagJsonError};
+use crate::{ExtensionsIterator, ParseError, SubtagsIter, TagJsonError, ValidationError};
 use language_tags_grammar::case::{in_case, push_lowercase};
 use language_tags_grammar::ends::Ends;
 use language_tags_grammar::grandfathered::grandfathered;
 use language_tags_grammar::private_use::{behind_x, check};
 use language_tags_grammar::scan::scan;
+use language_tags_registry::Registry;
 use serde_json::Value;
 use std::alloc::{AllocError, Global};
 use std::fmt;
@@ -53,7 +54,9 @@ impl LanguageTag {
     ghost use Rattle.language_tags_grammar.specs.Tag.{region_of, script_of, variants_of};
     ghost use Rattle.std.specs.Str.{bytes_eq};
     ghost use Rattle.language_tags.specs.Equality.{IsRange, Matches};
+    ghost use Rattle.language_tags.specs.Canon.{Rewrites};
     ghost use Rattle.language_tags.specs.Valid.{are_different};
+    ghost use Rattle.language_tags_grammar.specs.Kept.{KeepsParts, parts_at};
     ghost use Rattle.language_tags_grammar.specs.TagFault.{IsFaultBehindX, IsFaultOf};
     ghost use Rattle.language_tags_grammar.specs.TagFault.{IsFaultOfPieces};
     ghost use Rattle.language_tags_grammar.specs.TagOf.{IsLangtag, IsTagOf, StandsBehindX};
@@ -137,6 +140,39 @@ impl LanguageTag {
             text: unsafe { String::from_utf8_unchecked(bytes) },
             ends: Some(ends),
         })
+    }
+
+    /// The tag of a text whose parts end there.
+    pub(crate) fn of_parts(text: String, ends: Ends) -> LanguageTag
+        requires { KeepsParts (string_bytes text) ends (parts_at ends (string_bytes text)) }
+        ensures { result ≡ Plain (parts_at ends (string_bytes text)) }
+    {
+        LanguageTag {
+            text,
+            ends: Some(ends),
+        }
+    }
+
+    /// The tag with its parts in canonical form, but where two extlangs or more refuse it.
+    pub(crate) fn rewritten(
+        &self,
+        alloc: Global,
+        registry: &Registry,
+    ) -> Result<LanguageTag, ValidationError>
+        ensures ok { IfOk result (λ tag. Rewrites registry.now self.now (Some tag)) }
+        ensures err { IfErr result (λ fault. fault ≢ ValidationError.NoMemory
+            → (fault ≡ ValidationError.MultipleExtendedLanguageSubtags) × Rewrites registry.now self.now None) }
+    {
+        if self.ends.is_none() {
+            return self.same(alloc);
+        }
+        if !self.has_few_extlangs() {
+            return Err(ValidationError::MultipleExtendedLanguageSubtags);
+        }
+        match self.canonical_parts(alloc, registry) {
+            Ok(tag) => Ok(tag),
+            Err(_) => Err(ValidationError::NoMemory),
+        }
     }
 
     /// The printed tag.

@@ -198,7 +198,7 @@ fn fault_of_variant(registry: &Registry, text: &str, variant: &str) -> Option<Va
     }
 }
 
-fn begins(text: &str, prefix: &str) -> bool
+pub(crate) fn begins(text: &str, prefix: &str) -> bool
     ensures { result ≡ begins text.now prefix.now }
 {
     text.starts_with(prefix)
@@ -231,7 +231,7 @@ pub(crate) fn has_different_pieces(text: &str) -> bool
     true
 }
 
-fn contains(pieces: SubtagsIter<'_>, piece: &str) -> bool
+pub(crate) fn contains(pieces: SubtagsIter<'_>, piece: &str) -> bool
     ensures { result ≡ list_any (bytes_eq piece.now) pieces.entry }
 {
     for other in pieces {
