@@ -3,12 +3,16 @@
 
 ghost use Rattle.icu_list.specs.LawsOfLists.{CharactersAreJoined, ConditionsApply, OneExpression};
 
+use lazy_dfa::a_pattern_is_read;
+
 /// A special pattern's condition applies exactly where it holds on the last item, and a pattern text
 /// is the condition of one expression at most.
 pub fn conditions_apply()
     ensures applies { ConditionsApply }
     ensures one { OneExpression }
-{}
+{
+    a_pattern_is_read();
+}
 
 /// The text of a marked list is the list of the items' texts.
 pub fn characters_are_joined()
