@@ -1,17 +1,12 @@
 -- A pattern that is a condition has one expression, and whether it holds on a text is decided by that.
-use Rattle.std.proofs.Common.{◌≡◌, ◌≢◌, ℕ, Bool, true, false, List, Result, Ok, Err, IfErr, inl, inr, refl, sym, ap, subst, ◌∙◌}
+use Rattle.std.proofs.Common.{◌≡◌, ℕ, Bool, true, false, List, Result, Ok, Err, inl, inr, refl, sym, ap, subst, ◌∙◌}
 use Rattle.std.specs.Prelude.{◌↔◌}
 use Rattle.lazy_dfa.specs.ConditionOf.{condition_of}
 use Rattle.lazy_dfa.specs.Expression.{Expression}
 use Rattle.lazy_dfa.specs.Machine.{Machine, IsFor}
 use Rattle.lazy_dfa.specs.Meaning.{holds}
-use Rattle.lazy_dfa.specs.Refusals.{condition, IsRefused}
+use Rattle.lazy_dfa.specs.Refusals.{condition}
 use Rattle.lazy_dfa.specs.declared.error.ConditionError.{ConditionError}
-use Rattle.lazy_dfa.specs.declared.error.ConditionError.TheVariants as error
-use Rattle.icu_list.specs.declared.error.DataError.{DataError}
-use Rattle.icu_list.specs.declared.error.DataError.TheVariants.{InvalidPattern, CannotStore, Condition, MissingLocale, NotJsonForm, NoMemory}
-use Rattle.icu_list.specs.ConditionFaults.{IsConditionFault, error_of}
-use Rattle.icu_list.specs.ListFault.{IsFault, condition_fault}
 use Rattle.icu_list.specs.Deciding.{Tested, tested_holds}
 use Rattle.icu_list.specs.Conditions.{decision, applies, applies_by, IsForCondition}
 
@@ -54,23 +49,3 @@ pub one_expression : ReadsConditions → (pattern : List ℕ) (e f : Expression)
 one_expression law pattern e f c d = let same = sym (law pattern e c) ∙ law pattern f d in ok_is e f same where
   ok_is : (x y : Expression) → ◌≡◌ {A = Result Expression ConditionError} (Ok x) (Ok y) → x ≡ y
   ok_is x y h = cc
-
--- the law of lazy_dfa: what is refused is read as its fault
-abbrev pub ReadsFaults : Type 0
-ReadsFaults = (pattern : List ℕ) (e : ConditionError) → e ≢ error.NoMemory → IsRefused pattern e → condition_of pattern ≡ Err e
-
--- why a pattern is no condition is the fault that its reading has
-pub fault_is : ReadsFaults → (pattern : List ℕ) (e : DataError) → IsConditionFault pattern e → IsFault (condition_fault (condition_of pattern)) e
-fault_is law pattern (Condition e) h = ap condition_fault (law pattern e h.0 h.1)
-fault_is law pattern NoMemory h = tt
-fault_is law pattern InvalidPattern h = absurd h
-fault_is law pattern CannotStore h = absurd h
-fault_is law pattern MissingLocale h = absurd h
-fault_is law pattern NotJsonForm h = absurd h
-
--- the same of what reading a condition answers
-pub lifted_fault : ReadsFaults → (pattern : List ℕ) (e : ConditionError) → IsRefused pattern e → IsFault (condition_fault (condition_of pattern)) (error_of e)
-lifted_fault law pattern error.NotAnchored h = fault_is law pattern (Condition error.NotAnchored) ((λ e. cc), h)
-lifted_fault law pattern error.TooLong h = fault_is law pattern (Condition error.TooLong) ((λ e. cc), h)
-lifted_fault law pattern (error.Syntax place) h = fault_is law pattern (Condition (error.Syntax place)) ((λ e. cc), h)
-lifted_fault law pattern error.NoMemory h = tt

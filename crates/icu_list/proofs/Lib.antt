@@ -8,4 +8,4 @@ pub mod Going
 pub mod MiddleText
 pub mod Making
 pub mod Turns
-pub mod SameParts
+pub mod ExactHints

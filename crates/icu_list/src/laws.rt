@@ -1,7 +1,9 @@
 //! Laws of lists, for contracts that cite them. Each function does nothing: its contract is the
 //! law.
 
-ghost use Rattle.icu_list.specs.LawsOfLists.{CharactersAreJoined, ConditionsApply, OneExpression};
+ghost use Rattle.icu_list.specs.LawsOfLists.{
+    CharactersAreJoined, ConditionsApply, HintsAreExact, OneExpression,
+};
 
 use lazy_dfa::a_pattern_is_read;
 
@@ -17,4 +19,10 @@ pub fn conditions_apply()
 /// The text of a marked list is the list of the items' texts.
 pub fn characters_are_joined()
     ensures { CharactersAreJoined }
+{}
+
+/// The hint of a list of texts under patterns without specials is exact, where the list's bytes fit
+/// a `usize`.
+pub fn hints_are_exact()
+    ensures { HintsAreExact }
 {}
