@@ -1,9 +1,11 @@
 pub mod Cuts
 pub mod Places
 pub mod Reading
+pub mod PatternWriting
 pub mod ConditionLaws
 pub mod Framing
 pub mod Going
 pub mod MiddleText
 pub mod Making
 pub mod Turns
+pub mod ExactHints

@@ -5,7 +5,7 @@ use Rattle.std.proofs.lemmas.Bool.{eqb-true, eqb-false}
 use Rattle.std.proofs.lemmas.Option.{slice_get_within}
 use Rattle.lazy_dfa.specs.Expression.{CharacterSet, contains, Expression, Nothing, OneOf, End, Sequence, Choice, Star, Plus, Optional}
 use Rattle.lazy_dfa.specs.Meaning.{Chain, done, step, ReadsAt, Reading, match, holds}
-use Rattle.lazy_dfa.proofs.Bounds.{chain_le, Reading_le}
+use Rattle.lazy_dfa.specs.MeaningLaws.{chain_le, Reading_le}
 
 -- a fact, or that it doesn't hold
 abbrev pub Tested : Type 0 → Type 0

@@ -128,12 +128,13 @@ pair_hinted : (e : Ending) (pair : Option Pair) (last : List ℕ)
 pair_hinted e None last = closing_hinted e.default e.special last
 pair_hinted e (Some pair) last = pattern_hinted pair.default pair.special last
 
-append_three : (a b c : List ℕ) → byte_length (a ++ (b ++ c)) ≡ byte_length a + (byte_length b + byte_length c)
+-- the bytes of three texts
+pub append_three : (a b c : List ℕ) → byte_length (a ++ (b ++ c)) ≡ byte_length a + (byte_length b + byte_length c)
 append_three a b c = byte_length-append a (b ++ c) ∙ ap (λ n. byte_length a + n) (byte_length-append b c)
 
 module _ {X : Type 0} (text : X → List ℕ) (hint : X → LengthHint) (hinted : (x : X) → Hinted (hint x) (byte_length (text x))) where
   -- the items' bytes
-  abbrev total : List X → ℕ
+  abbrev pub total : List X → ℕ
   total [] = 0
   total (x ∷ xs) = byte_length (text x) + total xs
 
@@ -149,7 +150,8 @@ module _ {X : Type 0} (text : X → List ℕ) (hint : X → LengthHint) (hinted 
       subst (λ (m : ℕ). Hinted (list_hint p (map hint xs)) m) (omega (arith, e))
       (Hinted-sum (items_hint (map hint xs)) (patterns_hint p (length (map hint xs))) (0 + total xs) n (fold_hinted (exact 0) 0 xs (Hinted-exact 0)) h)
 
-  rest_bytes : (between : List ℕ) (c : Closing) (t : List ℕ) (x : X) (xs : List X)
+  -- the bytes of an item and those behind it, up to the last
+  pub rest_bytes : (between : List ℕ) (c : Closing) (t : List ℕ) (x : X) (xs : List X)
       → byte_length (rest as_it_is between c t (map text (x ∷ xs))) ≡ byte_length t + (total (x ∷ xs) + (byte_length between * length xs + byte_length (texts (whole c))))
   rest_bytes between c t x [] =
       let one = append_three t c.between (text x ++ c.suffix) in

@@ -4,7 +4,7 @@ use Rattle.std.specs.Prelude.{◌≡◌, ℕ, Bool, true, false, List, [], ◌�
 use Rattle.lazy_dfa.specs.Expression.{Expression}
 use Rattle.lazy_dfa.specs.declared.error.ConditionError.{ConditionError}
 use Rattle.writeable_core.specs.Texts.{same_text}
-use Rattle.icu_list.specs.Conditions.{condition_of}
+use Rattle.lazy_dfa.specs.ConditionOf.{condition_of}
 use Rattle.icu_list.specs.Pattern.{Pattern}
 use Rattle.icu_list.specs.Patterns.{Patterns, opening_of, closing_of, Pair}
 use Rattle.icu_list.specs.PatternTexts.{joiner, middle}

@@ -1,10 +1,17 @@
 -- Patterns as JSON objects: `string` is the text without placeholders, and `index_1` the place of the second item in it.
-use Rattle.std.specs.Prelude.{◌≡◌, ℕ, ◌≤◌, List, Option, Some, codes, chars, option_and_then}
-use Rattle.serde_json.specs.Data.{Data}
+use Rattle.std.specs.Prelude.{◌≡◌, ℕ, ◌≤◌, List, ◌++◌, Option, Some, codes, chars, option_and_then, encode_utf8_all}
+use Rattle.serde_json.specs.Data.{Data, object, member, no_members, number, unsigned, string}
+use Rattle.writeable_core.specs.Hint.{byte_length}
 use Rattle.serde_json.specs.Find.{get, as_str, as_u64, as_number}
-use Rattle.icu_list.specs.Pattern.{Pattern, IsPlace, pattern_at}
+use Rattle.icu_list.specs.Pattern.{Pattern, IsPlace, pattern_at, texts}
 use Rattle.icu_list.specs.declared.error.DataError.{DataError}
 use Rattle.icu_list.specs.declared.error.DataError.TheVariants.{InvalidPattern, CannotStore, Condition, MissingLocale, NotJsonForm, NoMemory}
+
+-- the object of a pattern; what stands before the first item isn't told apart
+abbrev pub json_of : Pattern → Data
+json_of p =
+    object (member (codes "index_1") (number (unsigned (byte_length (p.prefix ++ p.between))))
+    (member (codes "string") (string (encode_utf8_all (texts p))) no_members))
 
 -- a place in the text, of those that are stored
 pub record IsStoredPlace (text : List ℕ) (place : ℕ) : Type 0 where

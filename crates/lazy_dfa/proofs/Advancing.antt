@@ -14,7 +14,7 @@ use Rattle.lazy_dfa.specs.Steps.{next_has, IsDecidedAt, HoldsAt}
 use Rattle.lazy_dfa.specs.Stepping.{Decided}
 use Rattle.lazy_dfa.specs.Progress.{IsReached}
 use Rattle.lazy_dfa.proofs.Sets.{has-none, some_in, any_below-some, any_below-from}
-use Rattle.lazy_dfa.proofs.Bounds.{Reaches_is}
+use Rattle.lazy_dfa.specs.MeaningLaws.{Reaches_is}
 use Rattle.lazy_dfa.proofs.Texts.{empty_more, last_more, holds_by, holds_empty, holds_cases}
 use Rattle.lazy_dfa.proofs.Texts.{early_longer, after_first, first_after, after_follow}
 use Rattle.lazy_dfa.proofs.Texts.{follow_after, early_by, early_empty, empty_early, early_more}

@@ -17,7 +17,7 @@ use Rattle.lazy_dfa.specs.declared.error.ConditionError.TheVariants.{NotAnchored
 use Rattle.lazy_dfa.specs.declared.error.ConditionError.TheVariants.{NoMemory}
 use Rattle.std.specs.Result.{IfOk, IfErr}
 use Rattle.lazy_dfa.specs.Refusals.{Anchored, most_characters, condition, IsRefused, IsUnread}
-use Rattle.lazy_dfa.proofs.Longest.{is_alt, longest, no_alt_err, no_alt_rest}
+use Rattle.lazy_dfa.proofs.Longest.{is_alt, is_read, longest, no_alt_err, no_alt_rest}
 use Rattle.lazy_dfa.proofs.Repeating.{behind_is}
 
 -- all was read: the pattern is an `alt`
@@ -26,8 +26,9 @@ pub compiled : (t : List ℕ) (old new : Automaton) (p : Parsed) → old.size �
     → (e : Expression) × alt t e × IsFor (machine_of new p.part) e
 compiled t old new p none h all = (
   h.0,
-  is_alt t h.0 (subst (λ (u : List ℕ). Reads Alternatives t (Ok (found h.0 u)))
-      (nil_from_length p.rest.now all) h.1),
+  is_alt t h.0 (is_read t (Ok (found h.0 []))
+      (subst (λ (u : List ℕ). Reads Alternatives t (Ok (found h.0 u)))
+      (nil_from_length p.rest.now all) h.1)),
   record {
     sums = subst (λ (n : ℕ). Sums p.part h.0 n) none h.2.sums;
     sized = omega (arith, h.2.adds.sized, none);
@@ -41,12 +42,16 @@ pub unread_rest : (t : List ℕ) (old new : Automaton) (p : Parsed)
     → ReadsRun Alternatives t old new (Ok p) → (length p.rest.now ≡ 0 → ⊥)
     → IsNoAlt t × LongestAlt t (length t - length p.rest.now)
 unread_rest t old new p h more =
-    (no_alt_rest t (found h.0 p.rest.now) h.1 more, longest t (Ok (found h.0 p.rest.now)) h.1)
+    let read = is_read t (Ok (found h.0 p.rest.now)) h.1 in (
+      no_alt_rest t (found h.0 p.rest.now) read more,
+      longest t (Ok (found h.0 p.rest.now)) read,
+    )
 
 -- it broke off: the pattern is no `alt`
 pub unread_left : (t : List ℕ) (l : ℕ) → Reads Alternatives t (Err l) → IsNoAlt t
     × LongestAlt t (length t - l)
-unread_left t l h = (no_alt_err t l h, longest t (Err l) h)
+unread_left t l h =
+    let read = is_read t (Err l) h in (no_alt_err t l read, longest t (Err l) read)
 
 -- ---- the pattern behind `^`
 

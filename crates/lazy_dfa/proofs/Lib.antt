@@ -1,5 +1,4 @@
 pub mod Ranges
-pub mod Bounds
 pub mod Reaching
 pub mod Texts
 pub mod Sets
@@ -10,6 +9,7 @@ pub mod ReadingSteps
 pub mod Grammar
 pub mod Longest
 pub mod Compiling
+pub mod ConditionReading
 pub mod Advancing
 pub mod Pushing
 pub mod Matching

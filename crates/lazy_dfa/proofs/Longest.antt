@@ -522,8 +522,16 @@ front_is t x u e =
     let n : length t - length u ≡ length x = omega (arith, ap length e, length-append x u) in
     ap (λ m. take m t) n ∙ ap (take (length x)) e ∙ take-append_seam x u
 
+-- what is read of a text, from as much as it needs
+abbrev pub IsRead : List ℕ → Result Found ℕ → Type 0
+IsRead t r = parse (needed Alternatives t) Alternatives t ≡ r
+
+-- what is read from however much is read from as much as the text needs
+pub is_read : (t : List ℕ) (r : Result Found ℕ) → Reads Alternatives t r → IsRead t r
+is_read t r reads = reads.parsed (needed Alternatives t) (omega arith)
+
 -- where reading breaks off stands the end of the longest `alt`
-pub longest_at : (t : List ℕ) (r : Result Found ℕ) → Reads Alternatives t r
+pub longest_at : (t : List ℕ) (r : Result Found ℕ) → IsRead t r
     → (u : List ℕ) (e : Expression) → length u ≡ left_of r → Begins Alt t e u
     → LongestAlt t (length t - left_of r)
 longest_at t r reads u e size b = record {
@@ -535,52 +543,52 @@ longest_at t r reads u e size b = record {
       let all : take k t ++ drop k t ≡ t = take-append-drop k t in
       let left = alt_left h (drop k t) (needed Alternatives t) (omega (arith, ap length all)) in
       let same = ap (λ v. left_of (parse (needed Alternatives t) Alternatives v)) all
-      ∙ ap left_of (reads.parsed (needed Alternatives t) (omega arith)) in
+      ∙ ap left_of reads in
       omega (arith, left, same, length-drop k t);
 }
 
 -- the longest `alt`, by what is left
-pub longest : (t : List ℕ) (r : Result Found ℕ) → Reads Alternatives t r
+pub longest : (t : List ℕ) (r : Result Found ℕ) → IsRead t r
     → LongestAlt t (length t - left_of r)
 longest t r reads =
-    by r reads (subst (IsRun Alt t) (reads.parsed (needed Alternatives t) (omega arith))
+    by r reads (subst (IsRun Alt t) reads
     ((both_sound (needed Alternatives t)).0 t)) where
-      by : (r : Result Found ℕ) → Reads Alternatives t r → IsRun Alt t r
+      by : (r : Result Found ℕ) → IsRead t r → IsRun Alt t r
           → LongestAlt t (length t - left_of r)
       by (Ok p) reads h = longest_at t (Ok p) reads p.rest p.tree refl h
       by (Err l) reads h = longest_at t (Err l) reads h.1 h.0 h.2 h.3
 
 -- what is read to its end is an `alt`
-pub is_alt : (t : List ℕ) (e : Expression) → Reads Alternatives t (Ok (found e [])) → alt t e
+pub is_alt : (t : List ℕ) (e : Expression) → IsRead t (Ok (found e [])) → alt t e
 is_alt t e reads =
     let h : Begins Alt t e [] =
-    subst (IsRun Alt t) (reads.parsed (needed Alternatives t) (omega arith))
+    subst (IsRun Alt t) reads
     ((both_sound (needed Alternatives t)).0 t) in
     subst (λ (x : List ℕ). IsPart Alt x e) (sym (h.1 ∙ append-nil h.0)) h.2
 
 -- an `alt` is read to its end
-alt_whole : (t : List ℕ) (e : Expression) (r : Result Found ℕ) → Reads Alternatives t r → alt t e
+alt_whole : (t : List ℕ) (e : Expression) (r : Result Found ℕ) → IsRead t r → alt t e
     → r ≡ Ok (found e [])
 alt_whole t e r reads h =
     let all : t ++ [] ≡ t = append-nil t in
     let read = exact h [] at_end (needed Alternatives t) (omega (arith, ap length all)) in
-    sym (reads.parsed (needed Alternatives t) (omega arith))
+    sym reads
     ∙ ap (parse (needed Alternatives t) Alternatives) (sym all) ∙ read
 
 -- what breaks off is no `alt`
-pub no_alt_err : (t : List ℕ) (l : ℕ) → Reads Alternatives t (Err l) → IsNoAlt t
+pub no_alt_err : (t : List ℕ) (l : ℕ) → IsRead t (Err l) → IsNoAlt t
 no_alt_err t l reads = λ e h. let same = alt_whole t e (Err l) reads h in absurd cc
 
 -- what isn't read to its end is no `alt`
-pub no_alt_rest : (t : List ℕ) (p : Found) → Reads Alternatives t (Ok p) → (length p.rest ≡ 0 → ⊥)
+pub no_alt_rest : (t : List ℕ) (p : Found) → IsRead t (Ok p) → (length p.rest ≡ 0 → ⊥)
     → IsNoAlt t
 no_alt_rest t p reads more = λ e h. more (ap left_of (alt_whole t e (Ok p) reads h))
 
 -- no more is left than there was
-pub left_within : (t : List ℕ) (r : Result Found ℕ) → Reads Alternatives t r → left_of r ≤ length t
+pub left_within : (t : List ℕ) (r : Result Found ℕ) → IsRead t r → left_of r ≤ length t
 left_within t r reads =
     omega (
       arith,
       alternatives_left (needed Alternatives t) t,
-      ap left_of (reads.parsed (needed Alternatives t) (omega arith)),
+      ap left_of reads,
     )

@@ -9,7 +9,7 @@ use Rattle.lazy_dfa.specs.Expression.{Star, Plus, Optional, size}
 use Rattle.lazy_dfa.specs.Meaning.{Chain, done, step, Reading, Reaches}
 use Rattle.lazy_dfa.specs.Positions.{empty, first, last, follow, reads}
 use Rattle.lazy_dfa.proofs.Ranges.{Within, first_within, last_within, follow_within, reads_within}
-use Rattle.lazy_dfa.proofs.Bounds.{chain_le, chain_every, chain_end, Reading_le, Reaches_is}
+use Rattle.lazy_dfa.specs.MeaningLaws.{chain_le, chain_every, chain_end, Reading_le, Reaches_is}
 
 -- ---- whole readings
 

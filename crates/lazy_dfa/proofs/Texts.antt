@@ -9,7 +9,7 @@ use Rattle.lazy_dfa.specs.Expression.{Expression, Nothing, OneOf, End, Sequence,
 use Rattle.lazy_dfa.specs.Expression.{Optional, size}
 use Rattle.lazy_dfa.specs.Meaning.{Chain, done, step, Reading, holds, early, Reaches, after, front}
 use Rattle.lazy_dfa.specs.Positions.{empty, first, last, follow, reads}
-use Rattle.lazy_dfa.proofs.Bounds.{Reaches_is, Agree, Reading_agree, Reaches_agree}
+use Rattle.lazy_dfa.specs.MeaningLaws.{Reaches_is, Agree, Reading_agree, Reaches_agree}
 use Rattle.lazy_dfa.proofs.Reaching.{Reading_any, empty_reads, last_reads, Whole, read_whole}
 use Rattle.lazy_dfa.proofs.Reaching.{first_reached, reached_first, reached_read, reached_behind}
 use Rattle.lazy_dfa.proofs.Reaching.{follow_reached}

@@ -1,5 +1,6 @@
 pub mod Expression
 pub mod Meaning
+pub mod MeaningLaws
 pub mod Positions
 pub mod Syntax
 pub mod Parsing
@@ -14,3 +15,4 @@ pub mod States
 pub mod SteppingLaws
 pub mod Words
 pub mod Refusals
+pub mod ConditionOf

@@ -35,5 +35,5 @@ mod table;
 
 pub use condition::Condition;
 pub use error::ConditionError;
-pub use laws::{early_answer_is_right, stepper_has_read};
+pub use laws::{a_pattern_is_read, early_answer_is_right, stepper_has_read};
 pub use stepper::Stepper;

@@ -5,12 +5,15 @@ ghost use Rattle.std.specs.Str.{chars};
 ghost use Rattle.writeable_core.specs.Texts.{same_text};
 ghost use Rattle.writeable_core.specs.Hint.{byte_length, text_hint};
 ghost use Rattle.serde_json.specs.View.{view};
-ghost use Rattle.icu_list.specs.PatternJson.{IsJsonFault, IsOfJson, IsStoredPlace, IsUnplaced};
+ghost use Rattle.serde_json.specs.Data.{member, no_members, number, object, string, unsigned};
+ghost use Rattle.icu_list.specs.PatternJson.{
+    IsJsonFault, IsOfJson, IsStoredPlace, IsUnplaced, json_of,
+};
 ghost use Rattle.icu_list.specs.Pattern.{IsPlace, pattern, pattern_at, texts};
 ghost use Rattle.icu_list.specs.PatternTexts.{IsFaultOf, IsFaultStoring, cut, is_empty, joiner, most_bytes, pattern_of};
 
 use crate::DataError;
-use serde_json::Value;
+use serde_json::{Value, json};
 use std::alloc::{AllocError, Global};
 use std::marker::Model;
 use writeable_core::{LengthHint, OwnedText};
@@ -108,6 +111,16 @@ impl ListJoinerPattern {
         })
     }
 
+    /// The pattern as a JSON object: its text in `string`, and in `index_1` where the second item
+    /// stands in it, in bytes. Where the first one stands isn't written.
+    pub fn to_json(&self, alloc: Global) -> Result<Value, AllocError>
+        ensures ok { IfOk result (λ value. view value ≡ json_of self.now) }
+        ensures back { self.now.prefix ≡ [] → IfOk result (λ value.
+            IsOfJson (view value) self.now) }
+    {
+        json_object(alloc, self.string.as_str(), self.index_1)
+    }
+
     /// A copy of the pattern.
     pub(crate) fn copied(&self, alloc: Global) -> Result<ListJoinerPattern, AllocError>
         ensures { IfOk result (λ copy. copy ≡ self.now) }
@@ -189,6 +202,14 @@ impl PartialEq for ListJoinerPattern {
             && is_same(self.between(), other.between())
             && is_same(self.suffix(), other.suffix())
     }
+}
+
+/// A text and a place in it as a JSON object.
+fn json_object(alloc: Global, text: &str, place: u8) -> Result<Value, AllocError>
+    ensures { IfOk result (λ value. view value ≡ object (member (codes "index_1")
+        (number (unsigned place)) (member (codes "string") (string text.now) no_members))) }
+{
+    json!(in alloc; {"string": text, "index_1": place})
 }
 
 /// Whether a text may stand before or behind the items.

@@ -8,7 +8,7 @@ ghost use Rattle.icu_list.specs.ListHint.{patterns_hint};
 ghost use Rattle.icu_list.specs.PatternTexts.{IsFaultOf, middle};
 
 use crate::DataError;
-use crate::provider::joiner::is_allowed;
+use crate::provider::joiner::{is_allowed, is_same};
 use crate::provider::{
     ConditionalListJoinerPattern, Joints, ListJoinerPattern, SpecialCasePattern,
 };
@@ -192,6 +192,25 @@ impl ListFormatterPatterns {
             last: end.between(),
             behind: end.suffix(),
         }
+    }
+}
+
+/// Patterns are equal where those of start, middle, end and pair are.
+impl PartialEq for ListFormatterPatterns {
+    ghost use Rattle.std.specs.Prelude.{◌≡◌};
+    ghost use Rattle.icu_list.specs.SamePatterns.{same_patterns, same_patterns_laws};
+
+    ghost eq = { same_patterns };
+
+    ghost laws = { same_patterns_laws };
+
+    fn eq(&self, other: &ListFormatterPatterns) -> bool
+        ensures { result ≡ same_patterns self.now other.now }
+    {
+        self.start == other.start
+            && is_same(self.middle.as_str(), other.middle.as_str())
+            && self.end == other.end
+            && self.pair == other.pair
     }
 }
 

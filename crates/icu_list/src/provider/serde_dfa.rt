@@ -3,7 +3,9 @@
 ghost use Rattle.std.specs.Prelude.{◌≡◌, IfErr, IfOk, IsSomeAnd, encode_utf8_all};
 ghost use Rattle.std.specs.Str.{chars};
 ghost use Rattle.lazy_dfa.specs.Expression.{Expression};
+ghost use Rattle.lazy_dfa.specs.ConditionOf.{condition_of};
 ghost use Rattle.icu_list.specs.Conditions.{applies};
+ghost use Rattle.icu_list.specs.ListFault.{IsFault, condition_fault};
 ghost use Rattle.serde_json.specs.Data.{string};
 ghost use Rattle.serde_json.specs.Find.{as_str};
 ghost use Rattle.serde_json.specs.View.{view};
@@ -12,7 +14,7 @@ ghost use Rattle.lazy_dfa.specs.Refusals.{condition};
 
 use crate::DataError;
 use crate::provider::joiner::is_same;
-use lazy_dfa::{Condition, ConditionError};
+use lazy_dfa::{Condition, ConditionError, a_pattern_is_read};
 use serde_json::Value;
 use std::alloc::{AllocError, Global};
 use std::marker::Model;
@@ -27,7 +29,8 @@ pub struct SerdeDFA {
 
 impl Model for SerdeDFA {
     ghost use Rattle.std.specs.Prelude.{ℕ, List};
-    ghost use Rattle.icu_list.specs.Conditions.{IsForCondition, condition_of};
+    ghost use Rattle.lazy_dfa.specs.ConditionOf.{condition_of};
+    ghost use Rattle.icu_list.specs.Conditions.{IsForCondition};
 
     ghost Value = { List ℕ };
 
@@ -42,7 +45,9 @@ impl SerdeDFA {
         ensures ok { IfOk result (λ dfa. dfa ≡ chars pattern.now) }
         ensures condition { IfOk result (λ _. (e : Expression) × condition (chars pattern.now) e) }
         ensures err { IfErr result (IsConditionFault (chars pattern.now)) }
+        ensures fault { IfErr result (IsFault (condition_fault (condition_of (chars pattern.now)))) }
     {
+        a_pattern_is_read();
         let mut condition = Condition::new(alloc, pattern).map_err(lifted)?;
         let _ = condition.determinise(alloc)?;
         let pattern = OwnedText::new(alloc, pattern)?;

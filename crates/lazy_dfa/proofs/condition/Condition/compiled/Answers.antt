@@ -1,13 +1,14 @@
 use Rattle.std.proofs.Common.{Err, length, sym, ◌∙◌}
 use Rattle.std.proofs.lemmas.Bool.{eqb-true, eqb-false}
-use Rattle.lazy_dfa.proofs.Longest.{left_within}
+use Rattle.lazy_dfa.proofs.Longest.{is_read, left_within}
 use Rattle.lazy_dfa.proofs.Compiling.{compiled, unread_rest, unread_left}
 use Rattle.lazy_dfa.proofs.condition.Condition.compiled.Goals as goal
 
 pub overflow_sub-result : goal.overflow_sub-result
 overflow_sub-result c =
     left_within c.args.text.now (Err c.in-Err-Left.left)
-    (rw c.in-Err-Left.field-0-is at c.in-Err-Left.ensures)
+    (is_read c.args.text.now (Err c.in-Err-Left.left)
+    (rw c.in-Err-Left.field-0-is at c.in-Err-Left.ensures))
 
 pub returns-in-Err-Left-clause-err : goal.returns-in-Err-Left-clause-err
 returns-in-Err-Left-clause-err c =
