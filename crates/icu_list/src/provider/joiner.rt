@@ -7,7 +7,11 @@ ghost use Rattle.writeable_core.specs.Hint.{byte_length, text_hint};
 ghost use Rattle.serde_json.specs.View.{view};
 ghost use Rattle.serde_json.specs.Data.{member, no_members, number, object, string, unsigned};
 ghost use Rattle.icu_list.specs.PatternJson.{
-    IsJsonFault, IsOfJson, IsStoredPlace, IsUnplaced, json_of,
+  IsJsonFault,
+  IsOfJson,
+  IsStoredPlace,
+  IsUnplaced,
+  json_of,
 };
 ghost use Rattle.icu_list.specs.Pattern.{IsPlace, pattern, pattern_at, texts};
 ghost use Rattle.icu_list.specs.PatternTexts.{IsFaultOf, IsFaultStoring, cut, is_empty, joiner, most_bytes, pattern_of};
