@@ -1,17 +1,26 @@
 //! The canonical form of a tag over a registry.
-ghost use Rattle.std.specs.Prelude.{◌≡◌, ◌≢◌, ◌⊎◌, ◌≤◌, ◌++◌, ◌∷◌, ℕ, List, [], Option, Some, None, true, IfOk, IfErr, IfSome, OnOk, IsTrue, if◌then◌else◌, is_some, length, map, string_bytes, unwrap_or};
+ghost use Rattle.std.specs.Prelude.{◌≡◌, ◌≢◌, ◌⊎◌, ◌≤◌, ◌++◌, ◌∷◌, ℕ, List, [], Option, Some};
+ghost use Rattle.std.specs.Prelude.{None, true, IfOk, IfErr, IfSome, OnOk, IsTrue, if◌then◌else◌};
+ghost use Rattle.std.specs.Prelude.{is_some, length, map, string_bytes, unwrap_or};
 ghost use Rattle.std.specs.List.{AllByRecursion, flat_map, list_all};
 ghost use Rattle.std.specs.List.Sorted.{IsPermutation, IsSortedBy};
 ghost use Rattle.std.specs.Option.{option_copied, option_map};
 ghost use Rattle.language_tags_grammar.specs.Pieces.{dashed, pieces};
-ghost use Rattle.language_tags_grammar.specs.Shapes.{IsExtension, is_language, is_region, is_script, is_small, is_variant};
-ghost use Rattle.language_tags_grammar.specs.Tag.{Extension, Parts, Plain, at_most_one, extension_pieces, extensions_of, extlangs_of, language_of, print, region_of, script_of, variants_of};
+ghost use Rattle.language_tags_grammar.specs.Shapes.{IsExtension, is_language, is_region};
+ghost use Rattle.language_tags_grammar.specs.Shapes.{is_script, is_small, is_variant};
+ghost use Rattle.language_tags_grammar.specs.Tag.{Extension, Parts, Plain, at_most_one};
+ghost use Rattle.language_tags_grammar.specs.Tag.{extension_pieces, extensions_of, extlangs_of};
+ghost use Rattle.language_tags_grammar.specs.Tag.{language_of, print, region_of, script_of};
+ghost use Rattle.language_tags_grammar.specs.Tag.{variants_of};
 ghost use Rattle.language_tags_grammar.specs.TagOf.{IsTagOf};
 ghost use Rattle.language_tags_registry.specs.Kinds.{MeetsAny, kind_of};
 ghost use Rattle.language_tags_registry.specs.Registry.{table_of, value_of};
-ghost use Rattle.language_tags.specs.Canon.{AreCanonical, GoesTo, IsCanonOf, Rewrites, Stays, extlang_value, is_before, not_written, replaced, unless_suppressed};
+ghost use Rattle.language_tags.specs.Canon.{AreCanonical, GoesTo, IsCanonOf, Rewrites, Stays};
+ghost use Rattle.language_tags.specs.Canon.{extlang_value, is_before, not_written, replaced};
+ghost use Rattle.language_tags.specs.Canon.{unless_suppressed};
 ghost use Rattle.language_tags.specs.Extensions.{item_of};
-ghost use Rattle.language_tags.specs.CanonText.{IsShaped, dash_text, dashed_items, is_item_before, pair_of};
+ghost use Rattle.language_tags.specs.CanonText.{IsShaped, dash_text, dashed_items};
+ghost use Rattle.language_tags.specs.CanonText.{is_item_before, pair_of};
 
 use crate::validity::{begins, contains};
 use crate::{LanguageTag, SubtagsIter, ValidationError};
@@ -29,7 +38,8 @@ impl LanguageTag {
     ) -> Result<LanguageTag, ValidationError>
         ensures ok { IfOk result (λ tag. IsCanonOf registry.now self.now (Some tag)) }
         ensures err { IfErr result (λ fault. fault ≢ ValidationError.NoMemory
-            → (fault ≡ ValidationError.MultipleExtendedLanguageSubtags) × IsCanonOf registry.now self.now None) }
+            → (fault ≡ ValidationError.MultipleExtendedLanguageSubtags)
+            × IsCanonOf registry.now self.now None) }
     {
         let text = self.as_str();
         if begins(text, "x-") {
@@ -47,7 +57,9 @@ impl LanguageTag {
         alloc: Global,
         registry: &Registry,
     ) -> Result<LanguageTag, ValidationError>
-        ensures ok { IfOk result (λ tag. GoesTo (value_of registry.now.grandfathereds_preferred (print self.now)) (Stays self.now) (Some tag)) }
+        ensures ok { IfOk result
+            (λ tag. GoesTo (value_of registry.now.grandfathereds_preferred (print self.now))
+            (Stays self.now) (Some tag)) }
         ensures err { IfErr result (λ fault. fault ≡ ValidationError.NoMemory) }
     {
         match registry.get(RegistryTable::GrandfatheredsPreferred, self.as_str()) {
@@ -58,10 +70,13 @@ impl LanguageTag {
 
     /// The form of a tag that is neither grandfathered nor for private use.
     fn other_form(&self, alloc: Global, registry: &Registry) -> Result<LanguageTag, ValidationError>
-        ensures ok { IfOk result (λ tag. GoesTo (value_of registry.now.redundants_preferred (print self.now)) (Rewrites registry.now self.now) (Some tag)) }
+        ensures ok { IfOk result
+            (λ tag. GoesTo (value_of registry.now.redundants_preferred (print self.now))
+            (Rewrites registry.now self.now) (Some tag)) }
         ensures err { IfErr result (λ fault. fault ≢ ValidationError.NoMemory
             → (fault ≡ ValidationError.MultipleExtendedLanguageSubtags)
-            × GoesTo (value_of registry.now.redundants_preferred (print self.now)) (Rewrites registry.now self.now) None) }
+            × GoesTo (value_of registry.now.redundants_preferred (print self.now))
+            (Rewrites registry.now self.now) None) }
     {
         match registry.get(RegistryTable::RedundantsPreferred, self.as_str()) {
             Some(text) => tag_of(alloc, text),
@@ -77,7 +92,8 @@ impl LanguageTag {
     ) -> Result<LanguageTag, AllocError>
         requires shapes { IsShaped self.now }
         requires few { length (extlangs_of self.now) ≤ 1 }
-        ensures { IfOk result (λ tag. (q : Parts) × AreCanonical registry.now self.now q × (tag ≡ Plain q)) }
+        ensures { IfOk result
+            (λ tag. (q : Parts) × AreCanonical registry.now self.now q × (tag ≡ Plain q)) }
     {
         let language = self.new_language(registry);
         let extlang = self.new_extlang(registry);
@@ -133,7 +149,8 @@ impl LanguageTag {
     fn new_extlang<'a>(&'a self, registry: &'a Registry) -> Option<&'a str>
         requires { length (extlangs_of self.now) ≤ 1 }
         ensures { at_most_one (option_copied result)
-            ≡ (if is_some (extlang_value registry.now (extlangs_of self.now)) then [] else extlangs_of self.now) }
+            ≡ (if is_some (extlang_value registry.now (extlangs_of self.now))
+            then [] else extlangs_of self.now) }
     {
         if self.extlang_value(registry).is_some() {
             None
@@ -146,7 +163,8 @@ impl LanguageTag {
     fn extlang_value<'a>(&'a self, registry: &'a Registry) -> Option<&'a str>
         requires { length (extlangs_of self.now) ≤ 1 }
         ensures value { option_copied result ≡ extlang_value registry.now (extlangs_of self.now) }
-        ensures shape { IfSome result (λ value. MeetsAny (kind_of RegistryTable.ExtlangsPreferred).value value.now) }
+        ensures shape { IfSome result
+            (λ value. MeetsAny (kind_of RegistryTable.ExtlangsPreferred).value value.now) }
     {
         match self.extended_language() {
             Some(extlang) => registry.get(RegistryTable::ExtlangsPreferred, extlang),
@@ -157,7 +175,8 @@ impl LanguageTag {
     /// The script or what it is replaced by, but where the language suppresses it.
     fn new_script<'a>(&'a self, registry: &'a Registry, language: &str) -> Option<&'a str>
         requires { IsShaped self.now }
-        ensures value { option_copied result ≡ unless_suppressed (value_of registry.now.languages_suppress_script language.now)
+        ensures value { option_copied result
+            ≡ unless_suppressed (value_of registry.now.languages_suppress_script language.now)
             (option_map (replaced registry.now.scripts_preferred) (script_of self.now)) }
         ensures shape { IfSome (option_copied result) (λ s. IsTrue (is_script s)) }
     {
@@ -173,7 +192,8 @@ impl LanguageTag {
     /// The region or what it is replaced by.
     fn new_region<'a>(&'a self, registry: &'a Registry) -> Option<&'a str>
         requires { IsShaped self.now }
-        ensures value { option_copied result ≡ option_map (replaced registry.now.regions_preferred) (region_of self.now) }
+        ensures value { option_copied result
+            ≡ option_map (replaced registry.now.regions_preferred) (region_of self.now) }
         ensures shape { IfSome (option_copied result) (λ r. IsTrue (is_region r)) }
     {
         match self.region() {
@@ -186,9 +206,11 @@ impl LanguageTag {
     fn push_variants(&self, text: &mut String, registry: &Registry) -> Result<(), AllocError>
         requires { IsShaped self.now }
         ensures text { OnOk result (string_bytes text.new ≡ string_bytes text.old
-            ++ dashed (not_written (pieces (string_bytes text.old)) (map (replaced registry.now.variants_preferred) (variants_of self.now)))) }
+            ++ dashed (not_written (pieces (string_bytes text.old))
+            (map (replaced registry.now.variants_preferred) (variants_of self.now)))) }
         ensures shape { OnOk result (IsTrue (list_all is_variant
-            (not_written (pieces (string_bytes text.old)) (map (replaced registry.now.variants_preferred) (variants_of self.now))))) }
+            (not_written (pieces (string_bytes text.old))
+            (map (replaced registry.now.variants_preferred) (variants_of self.now))))) }
     {
         for subtag in self.variant_subtags() {
             let variant = replaced(registry, RegistryTable::VariantsPreferred, subtag);
@@ -200,8 +222,11 @@ impl LanguageTag {
     /// Appends the extensions in their order.
     fn push_extensions(&self, alloc: Global, text: &mut String) -> Result<(), AllocError>
         requires { IsShaped self.now }
-        ensures { OnOk result ((es : List Extension) × IsPermutation (extensions_of self.now) es × IsSortedBy is_before es
-            × AllByRecursion IsExtension es × (string_bytes text.new ≡ string_bytes text.old ++ dashed (flat_map extension_pieces es))) }
+        ensures { OnOk result
+            ((es : List Extension) × IsPermutation (extensions_of self.now) es
+            × IsSortedBy is_before es × AllByRecursion IsExtension es
+            × (string_bytes text.new
+            ≡ string_bytes text.old ++ dashed (flat_map extension_pieces es))) }
     {
         let extensions = self.sorted_extensions(alloc)?;
         push_extensions(text, extensions.as_slice())
@@ -209,7 +234,8 @@ impl LanguageTag {
 
     /// The extensions in their order, each its singleton and its content.
     fn sorted_extensions<'a>(&'a self, alloc: Global) -> Result<Vec<(char, &'a str)>, AllocError>
-        ensures permutation { IfOk result (λ v. IsPermutation (map item_of (extensions_of self.now)) (map pair_of v.items)) }
+        ensures permutation { IfOk result
+            (λ v. IsPermutation (map item_of (extensions_of self.now)) (map pair_of v.items)) }
         ensures order { IfOk result (λ v. IsSortedBy is_item_before (map pair_of v.items)) }
     {
         let mut extensions = self.listed_extensions(alloc)?;
@@ -262,8 +288,10 @@ fn replaced<'a>(registry: &'a Registry, table: RegistryTable, subtag: &'a str) -
     }
 }
 
+/// The script, but where it is the suppressed one.
 fn unless_suppressed<'a>(suppressed: Option<&str>, script: &'a str) -> Option<&'a str>
-    ensures value { option_copied result ≡ unless_suppressed (option_copied suppressed.entry) (Some script.now) }
+    ensures value { option_copied result
+        ≡ unless_suppressed (option_copied suppressed.entry) (Some script.now) }
     ensures same { IfSome result (λ s. s.now ≡ script.now) }
 {
     match suppressed {
@@ -280,7 +308,8 @@ fn unless_suppressed<'a>(suppressed: Option<&str>, script: &'a str) -> Option<&'
 
 /// Appends a part with a dash before it.
 fn push_part(text: &mut String, part: Option<&str>) -> Result<(), AllocError>
-    ensures { OnOk result (string_bytes text.new ≡ string_bytes text.old ++ dash_text (option_copied part.entry)) }
+    ensures { OnOk result
+        (string_bytes text.new ≡ string_bytes text.old ++ dash_text (option_copied part.entry)) }
 {
     match part {
         Some(part) => {
@@ -308,7 +337,9 @@ fn push_variant(text: &mut String, variant: &str) -> Result<(), AllocError>
 /// Appends extensions, each with a dash before its singleton and before its content.
 fn push_extensions(text: &mut String, extensions: &[(char, &str)]) -> Result<(), AllocError>
     requires { list_all (λ i. is_small i.0) extensions.now ≡ true }
-    ensures { OnOk result (string_bytes text.new ≡ string_bytes text.old ++ dashed_items (map pair_of extensions.now)) }
+    ensures { OnOk result
+        (string_bytes text.new
+        ≡ string_bytes text.old ++ dashed_items (map pair_of extensions.now)) }
 {
     for (singleton, content) in extensions {
         push_extension(text, *singleton, *content)?;
@@ -316,9 +347,12 @@ fn push_extensions(text: &mut String, extensions: &[(char, &str)]) -> Result<(),
     Ok(())
 }
 
+/// Appends an extension, with a dash before its singleton and before its content.
 fn push_extension(text: &mut String, singleton: char, content: &str) -> Result<(), AllocError>
     requires { is_small singleton ≡ true }
-    ensures { OnOk result (string_bytes text.new ≡ string_bytes text.old ++ dashed_items ((singleton, content.now) ∷ [])) }
+    ensures { OnOk result
+        (string_bytes text.new
+        ≡ string_bytes text.old ++ dashed_items ((singleton, content.now) ∷ [])) }
 {
     text.push_str("-")?;
     text.push(singleton)?;

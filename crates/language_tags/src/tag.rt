@@ -161,7 +161,8 @@ impl LanguageTag {
     ) -> Result<LanguageTag, ValidationError>
         ensures ok { IfOk result (λ tag. Rewrites registry.now self.now (Some tag)) }
         ensures err { IfErr result (λ fault. fault ≢ ValidationError.NoMemory
-            → (fault ≡ ValidationError.MultipleExtendedLanguageSubtags) × Rewrites registry.now self.now None) }
+            → (fault ≡ ValidationError.MultipleExtendedLanguageSubtags)
+            × Rewrites registry.now self.now None) }
     {
         if self.ends.is_none() {
             return self.same(alloc);
