@@ -1,5 +1,5 @@
 -- A pattern that is a condition has one expression, and whether it holds on a text is decided by that.
-use Rattle.std.proofs.Common.{◌≡◌, ℕ, Bool, true, false, List, Result, Ok, Err, inl, inr, refl, sym, ap, subst, ◌∙◌}
+use Rattle.std.proofs.Common.{◌≡◌, ℕ, Bool, true, false, List, Result, Ok, Err, inl, inr, refl, sym, subst, ◌∙◌}
 use Rattle.std.specs.Prelude.{◌↔◌}
 use Rattle.lazy_dfa.specs.ConditionOf.{condition_of}
 use Rattle.lazy_dfa.specs.Expression.{Expression}

@@ -1,7 +1,7 @@
 -- Without specials, the hint of a list of texts is exact.
 use Rattle.std.specs.Prelude.{if◌then◌else◌, ◌^◌, ◌-◌, IfSome}
 use Rattle.std.specs.List.{fold}
-use Rattle.std.proofs.Common.{◌≡◌, ℕ, ◌+◌, ◌*◌, ◌<◌, Bool, true, false, List, [], ◌∷◌, ◌++◌, length, Option, Some, None, map, refl, sym, ap, ◌∙◌, arith}
+use Rattle.std.proofs.Common.{◌≡◌, ℕ, ◌+◌, ◌*◌, ◌<◌, List, [], ◌∷◌, ◌++◌, length, Option, Some, None, map, refl, sym, ap, ◌∙◌, arith}
 use Rattle.std.proofs.lemmas.Bool.{le-leb}
 use Rattle.std.proofs.lemmas.List.{length-map}
 use Rattle.writeable_core.specs.declared.length_hint.LengthHint.{LengthHint}

@@ -2,7 +2,10 @@
 //! law.
 
 ghost use Rattle.icu_list.specs.LawsOfLists.{
-    CharactersAreJoined, ConditionsApply, HintsAreExact, OneExpression,
+  CharactersAreJoined,
+  ConditionsApply,
+  HintsAreExact,
+  OneExpression,
 };
 
 use lazy_dfa::a_pattern_is_read;

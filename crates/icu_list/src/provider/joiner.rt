@@ -1,7 +1,21 @@
 //! Patterns of two items.
 
 ghost use Rattle.std.specs.Prelude.{
-    ◌≡◌, ◌+◌, ◌<◌, ◌≤◌, ◌++◌, ◌||◌, [], Ok, Some, None, MatchOption, IfOk, IfErr, length, codes,
+  ◌≡◌,
+  ◌+◌,
+  ◌<◌,
+  ◌≤◌,
+  ◌++◌,
+  ◌||◌,
+  [],
+  Ok,
+  Some,
+  None,
+  MatchOption,
+  IfOk,
+  IfErr,
+  length,
+  codes,
 };
 ghost use Rattle.std.specs.Str.{chars};
 ghost use Rattle.writeable_core.specs.Texts.{same_text};
@@ -9,11 +23,21 @@ ghost use Rattle.writeable_core.specs.Hint.{byte_length, text_hint};
 ghost use Rattle.serde_json.specs.View.{view};
 ghost use Rattle.serde_json.specs.Data.{member, no_members, number, object, string, unsigned};
 ghost use Rattle.icu_list.specs.PatternJson.{
-    IsJsonFault, IsOfJson, IsStoredPlace, IsUnplaced, json_of,
+  IsJsonFault,
+  IsOfJson,
+  IsStoredPlace,
+  IsUnplaced,
+  json_of,
 };
 ghost use Rattle.icu_list.specs.Pattern.{IsPlace, pattern, pattern_at, texts};
 ghost use Rattle.icu_list.specs.PatternTexts.{
-    IsFaultOf, IsFaultStoring, cut, is_empty, joiner, most_bytes, pattern_of,
+  IsFaultOf,
+  IsFaultStoring,
+  cut,
+  is_empty,
+  joiner,
+  most_bytes,
+  pattern_of,
 };
 
 use crate::DataError;
