@@ -1,5 +1,5 @@
 -- A pattern that is a condition has one expression, and whether it holds on a text is decided by that.
-use Rattle.std.proofs.Common.{◌≡◌, ℕ, Bool, true, false, List, Result, Ok, Err, inl, inr, refl, sym, ap, subst, ◌∙◌}
+use Rattle.std.proofs.Common.{◌≡◌, ℕ, Bool, true, false, List, Result, Ok, Err, inl, inr, refl, sym, subst, ◌∙◌}
 use Rattle.std.specs.Prelude.{◌↔◌}
 use Rattle.lazy_dfa.specs.ConditionOf.{condition_of}
 use Rattle.lazy_dfa.specs.Expression.{Expression}
@@ -18,11 +18,13 @@ ReadsConditions = (pattern : List ℕ) (e : Expression) → condition pattern e 
 pub is_for : ReadsConditions → (pattern : List ℕ) (e : Expression) (m : Machine) → condition pattern e → IsFor m e → IsForCondition (condition_of pattern) m
 is_for law pattern e m c f = subst (λ (r : Result Expression ConditionError). IsForCondition r m) (sym (law pattern e c)) f
 
+-- what is answered is the decision
 decided : {P : Type 0} (t : Tested P) (r : Bool) → (r ≡ true) ↔ P → r ≡ decision t
 decided (inl p) r both = both.1 p
 decided (inr non) true both = absurd (non (both.0 refl))
 decided (inr non) false both = refl
 
+-- what the automaton of an expression answers
 applied_by : (o : Result Expression ConditionError) (m : Machine) (text : List ℕ) (r : Bool) → IsForCondition o m
     → ((e : Expression) → IsFor m e → (r ≡ true) ↔ holds e text) → r ≡ applies_by o text
 applied_by (Ok e) m text r f h = decided (tested_holds e text) r (h e f)
@@ -34,6 +36,7 @@ pub applied : (pattern text : List ℕ) (m : Machine) (r : Bool) → IsForCondit
 unfolding applies
 applied pattern text m r f h = applied_by (condition_of pattern) m text r f h
 
+-- a decision is true exactly where the fact holds
 both_ways : {P : Type 0} (t : Tested P) → (decision t ≡ true) ↔ P
 both_ways (inl p) = (λ e. p, λ p. refl)
 both_ways (inr non) = (λ e. absurd cc, λ p. absurd (non p))

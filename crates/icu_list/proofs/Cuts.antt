@@ -22,10 +22,12 @@ begun text word h =
     let same = (bytes_eq-Decides word (take (length word) text)).0 h in
     sym (take-append-drop (length word) text) ∙ ap (λ x. x ++ drop (length word) text) (sym same)
 
+-- a test that passes
 by_true : {X : Type 0} (b : Bool) (x y : X) → b ≡ true → (if b then x else y) ≡ x
 by_true true x y e = refl
 by_true false x y e = absurd cc
 
+-- a test that fails
 by_false : {X : Type 0} (b : Bool) (x y : X) → (b ≡ true → ⊥) → (if b then x else y) ≡ y
 by_false true x y never = absurd (never refl)
 by_false false x y never = refl
@@ -34,6 +36,7 @@ by_false false x y never = refl
 abbrev pub FirstBehind : List ℕ → List ℕ → List ℕ → Type 0
 FirstBehind word a b = (x y : List ℕ) → a ≡ x ++ y → 0 < length y → (r : List ℕ) → y ++ (word ++ b) ≡ word ++ r → ⊥
 
+-- a cut behind one character
 abbrev behind_one : ℕ → List ℕ × List ℕ → List ℕ × List ℕ
 behind_one c x = (c ∷ x.0, x.1)
 
@@ -48,9 +51,11 @@ cut_first (w ∷ word) (c ∷ a) b some first =
     (λ h. first [] (c ∷ a) refl (omega arith) (drop (length (w ∷ word)) (c ∷ (a ++ ((w ∷ word) ++ b)))) (begun (c ∷ (a ++ ((w ∷ word) ++ b))) (w ∷ word) h))
     ∙ ap (option_map (behind_one c)) (cut_first (w ∷ word) a b some (λ x y e lt r. first (c ∷ x) y (ap (λ l. c ∷ l) e) lt r))
 
+-- what is in equal options is equal
 some_is : {X : Type 0} (x y : X) → Some x ≡ Some y → x ≡ y
 some_is x y e = cc
 
+-- the parts of a cut, by whether the word stands at the front
 parts_by : (word text a b : List ℕ) (c : ℕ) (t : Bool) → starts_with nat_eq (c ∷ text) word ≡ t → (o : Option (List ℕ × List ℕ))
     → ((x y : List ℕ) → o ≡ Some (x, y) → text ≡ x ++ (word ++ y))
     → (if t then Some ([], drop (length word) (c ∷ text)) else option_map (behind_one c) o) ≡ Some (a, b) → c ∷ text ≡ a ++ (word ++ b)
@@ -73,9 +78,11 @@ cut_parts word (c ∷ text) a b h = parts_by word text a b c (starts_with nat_eq
 
 -- ---- from bytes to characters
 
+-- the bytes of three texts
 encodes_three : (a b c : List ℕ) → encodes (a ++ (b ++ c)) ≡ encodes a ++ (encodes b ++ encodes c)
 encodes_three a b c = encodes-append a (b ++ c) ∙ ap (λ x. encodes a ++ x) (encodes-append b c)
 
+-- a word of some bytes has some characters
 some_characters : (word : List ℕ) → IsUtf8 word → 0 < length word → 0 < length (chars word)
 some_characters word utf8 some = by (chars word) (encodes-chars word utf8) where
   by : (cs : List ℕ) → encodes cs ≡ word → 0 < length cs
@@ -88,9 +95,11 @@ word_at : (word text x r : List ℕ) → IsUtf8 word → IsUtf8 text → chars t
 word_at word text x r uw ut e =
     sym (encodes-chars text ut) ∙ ap encodes e ∙ encodes_three x (chars word) r ∙ ap (λ y. encodes x ++ (y ++ encodes r)) (encodes-chars word uw)
 
+-- what stands behind the bytes of a front
 drop_at : (word text x r : List ℕ) → text ≡ encodes x ++ (word ++ encodes r) → drop (length (encodes x)) text ≡ word ++ encodes r
 drop_at word text x r e = ap (drop (length (encodes x))) e ∙ drop-append_seam (encodes x) (word ++ encodes r)
 
+-- a text in which the word never begins has no cut
 lacking : (word text front : List ℕ) (i : ℕ) → IsUtf8 word → IsUtf8 text → IsUtf8 front → length front ≡ i → (b : List ℕ)
     → chars text ≡ chars front ++ (chars word ++ b) → ((k : ℕ) → k < i → LacksTextAt word text k) → FirstBehind (chars word) (chars front) b
 lacking word text front i uw ut uf len b e lacks = λ x y cut_e some r h.

@@ -1,7 +1,7 @@
 -- Without specials, the hint of a list of texts is exact.
 use Rattle.std.specs.Prelude.{if◌then◌else◌, ◌^◌, ◌-◌, IfSome}
 use Rattle.std.specs.List.{fold}
-use Rattle.std.proofs.Common.{◌≡◌, ℕ, ◌+◌, ◌*◌, ◌<◌, Bool, true, false, List, [], ◌∷◌, ◌++◌, length, Option, Some, None, map, refl, sym, ap, ◌∙◌, arith}
+use Rattle.std.proofs.Common.{◌≡◌, ℕ, ◌+◌, ◌*◌, ◌<◌, List, [], ◌∷◌, ◌++◌, length, Option, Some, None, map, refl, sym, ap, ◌∙◌, arith}
 use Rattle.std.proofs.lemmas.Bool.{le-leb}
 use Rattle.std.proofs.lemmas.List.{length-map}
 use Rattle.writeable_core.specs.declared.length_hint.LengthHint.{LengthHint}
@@ -18,9 +18,11 @@ use Rattle.icu_list.specs.LawsOfLists.{HasNoSpecial}
 bounds : (n : ℕ) (k : ℕ) (o : Option ℕ) → k ≡ n → o ≡ Some n → ◌≡◌ {A = LengthHint} (record { 0 = k; 1 = o }) (exact n)
 bounds n k o e f = rw (e, f) refl
 
+-- a number that fits is no greater than the greatest `usize`
 fits_below : (n : ℕ) → n < 2 ^ 64 → saturated n ≡ n
 fits_below n lt = omega (arith, lt)
 
+-- a number that fits is an upper bound
 fits_above : (n : ℕ) → n < 2 ^ 64 → fitting n ≡ Some n
 fits_above n lt = ap (λ b. if b then Some n else None) (le-leb n (2 ^ 64 - 1) (omega (arith, lt)))
 
@@ -40,11 +42,13 @@ closing_exact : (default : Closing) (special : Option SpecialClosing) (last : Li
 closing_exact default None last h = refl
 closing_exact default (Some s) last h = absurd cc
 
+-- the pattern of a stored pair
 choice_exact : (default : Pattern) (special : Option SpecialPattern) (last : List ℕ) → special ≡ None
     → choice_hint default special ≡ exact (byte_length (texts (pattern_for default special last)))
 choice_exact default None last h = refl
 choice_exact default (Some s) last h = absurd cc
 
+-- the pattern of two items
 pair_exact : (e : Ending) (pair : Option Pair) (last : List ℕ) → e.special ≡ None → IfSome pair (λ p. p.special ≡ None)
     → pair_hint e pair ≡ exact (byte_length (texts (two_by (closing_for e.default e.special last) pair last)))
 pair_exact e None last h k = closing_exact e.default e.special last h
@@ -69,6 +73,7 @@ together_exact p xs n t e lt h =
     (fold_exact (exact 0) 0 xs refl (omega (arith, e, lt))) h (omega (arith, e, lt))
     ∙ ap exact (omega (arith, e))
 
+-- the same items
 map_same : (xs : List (List ℕ)) → map (λ (t : List ℕ). t) xs ≡ xs
 map_same [] = refl
 map_same (x ∷ xs) = ap (λ ys. x ∷ ys) (map_same xs)

@@ -8,6 +8,7 @@ use Rattle.icu_list.specs.Joined.{two, start, middle, rest, nested, last_of}
 use Rattle.icu_list.specs.Frames.{frame_two, frame_more, frame_for, left, whole}
 
 module _ {A : Type 0} (literal : List ℕ → List A) (p : Patterns) (closing : Closing) (z : List A) where
+  -- items with a text before each
   abbrev behind_all : List (List A) → List A
   behind_all xs = left literal (frame_more p closing) z p.middle xs
 
@@ -17,6 +18,7 @@ module _ {A : Type 0} (literal : List ℕ → List A) (p : Patterns) (closing : 
   on m x xs items e =
       ap (λ y. m ++ (literal p.middle ++ y)) e ∙ ap (λ y. m ++ y) (sym (append_assoc (literal p.middle) x (behind_all xs)))
 
+  -- the items behind the first, from left to right
   rest_left : (m : List A) (xs : List (List A)) → rest literal p.middle closing m (xs ++ z ∷ []) ≡ m ++ behind_all xs
   rest_left m [] = ap (λ y. m ++ y) (sym (append_assoc (literal closing.between) z (literal closing.suffix)))
   rest_left m (x ∷ []) = on m x [] (z ∷ []) (rest_left x [])
@@ -31,6 +33,7 @@ module _ {A : Type 0} (literal : List ℕ → List A) (p : Patterns) (closing : 
       ∙ sym (append_assoc (literal p.start.prefix) a ((literal p.start.between ++ x) ++ behind_all xs))
 
 module _ {A : Type 0} (literal : List ℕ → List A) (p : Patterns) (last : List ℕ) (a z : List A) where
+  -- a list of two, from left to right
   two_whole : (q : Pattern) → two literal q a z ≡ whole literal (frame_two q) a [] z
   two_whole q =
       ap (λ y. literal q.prefix ++ (a ++ y)) (sym (append_assoc (literal q.between) z (literal q.suffix)))
@@ -49,6 +52,7 @@ pub last_of-last : (xs : List (List ℕ)) (a z : List ℕ) → last_of (a ∷ (x
 last_of-last [] a z = refl
 last_of-last (x ∷ xs) a z = last_of-last xs x z
 
+-- what is made of the last item stands last
 pub map-last : {X Y : Type 0} (f : X → Y) (xs : List X) (z : X) → map f (xs ++ z ∷ []) ≡ map f xs ++ f z ∷ []
 map-last f [] z = refl
 map-last f (x ∷ xs) z = ap (λ ys. f x ∷ ys) (map-last f xs z)

@@ -1,5 +1,5 @@
 -- Patterns as JSON objects, from the stored text and its places.
-use Rattle.std.proofs.Common.{◌≡◌, ℕ, ◌+◌, ◌-◌, ◌≤◌, List, [], ◌++◌, length, take, drop, Some, Result, Ok, Err, IfOk, refl, sym, ap, subst, ◌∙◌, arith, chars, codes}
+use Rattle.std.proofs.Common.{◌≡◌, ℕ, ◌+◌, ◌-◌, ◌≤◌, List, [], ◌++◌, length, take, drop, Result, Ok, Err, IfOk, refl, sym, ap, subst, ◌∙◌, arith, chars, codes}
 use Rattle.std.specs.Str.{IsUtf8}
 use Rattle.std.proofs.lemmas.Str.{encodes-chars, IsUtf8-take, IsUtf8-between}
 use Rattle.std.proofs.lemmas.List.{length-take, length-drop}
@@ -8,8 +8,8 @@ use Rattle.serde_json.specs.View.{view}
 use Rattle.serde_json.specs.declared.value.Value.{Value}
 use Rattle.std.specs.declared.alloc.AllocError.{AllocError}
 use Rattle.writeable_core.specs.Hint.{byte_length}
-use Rattle.icu_list.specs.Pattern.{Pattern, IsPlace, pattern_at, texts}
-use Rattle.icu_list.specs.PatternJson.{IsStoredPlace, IsOfJson, json_of}
+use Rattle.icu_list.specs.Pattern.{IsPlace, pattern_at, texts}
+use Rattle.icu_list.specs.PatternJson.{IsOfJson, json_of}
 use Rattle.icu_list.proofs.Places.{bytes_of, place_in, texts_are}
 use Rattle.icu_list.proofs.Reading.{bytes_before}
 use lib.Utf8.{encodes}

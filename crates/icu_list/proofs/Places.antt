@@ -11,6 +11,7 @@ use lib.Utf8.{encodes}
 pub bytes_of : (text bytes : List ℕ) → IsUtf8 bytes → chars bytes ≡ text → encodes text ≡ bytes
 bytes_of text bytes utf8 e = ap encodes (sym e) ∙ encodes-chars bytes utf8
 
+-- a place in a text is one in its bytes
 pub place_in : (text bytes : List ℕ) (n : ℕ) → IsUtf8 bytes → chars bytes ≡ text → IsPlace text n → IsCharBoundary bytes n
 place_in text bytes n utf8 e h = subst (λ (b : List ℕ). IsCharBoundary b n) (bytes_of text bytes utf8 e) h
 
@@ -20,14 +21,17 @@ pub record Three (text p b s : List ℕ) : Type 0 where
   pub utf8_between : IsUtf8 b
   pub utf8_suffix : IsUtf8 s
 
+-- the first of three texts ends at a place
 pub first_place : (text p b s : List ℕ) → Three text p b s → IsPlace text (length p)
 first_place text p b s t = IsCharBoundary-at_seam (encodes text) p (b ++ s) t.bytes (IsUtf8-append b s t.utf8_between t.utf8_suffix)
 
+-- the second of three texts ends at a place
 pub second_place : (text p b s : List ℕ) (j : ℕ) → Three text p b s → j ≡ length p + length b → IsPlace text j
 second_place text p b s j t e =
     subst (λ (n : ℕ). IsPlace text n) (length-append p b ∙ sym e)
     (IsCharBoundary-at_seam (encodes text) (p ++ b) s (t.bytes ∙ sym (append_assoc p b s)) t.utf8_suffix)
 
+-- the pattern at these places is that of the three texts
 pub pattern_is : (text p b s : List ℕ) (j : ℕ) → Three text p b s → j ≡ length p + length b
     → pattern_at text (length p) j ≡ pattern (chars p) (chars b) (chars s)
 pattern_is text p b s j t e =
@@ -43,12 +47,15 @@ pattern_is text p b s j t e =
 -- ---- the parts, read from the bytes
 
 module _ (text bytes : List ℕ) (i j : ℕ) (utf8 : IsUtf8 bytes) (e : chars bytes ≡ text) where
+  -- what stands before the first place
   pub prefix_is : chars (take i bytes) ≡ (pattern_at text i j).prefix
   prefix_is = ap (λ (b : List ℕ). chars (take i b)) (sym (bytes_of text bytes utf8 e))
 
+  -- what stands between the places
   pub between_is : chars (take (j - i) (drop i bytes)) ≡ (pattern_at text i j).between
   between_is = ap (λ (b : List ℕ). chars (take (j - i) (drop i b))) (sym (bytes_of text bytes utf8 e))
 
+  -- what stands behind the second place
   pub suffix_is : chars (drop j bytes) ≡ (pattern_at text i j).suffix
   suffix_is = ap (λ (b : List ℕ). chars (drop j b)) (sym (bytes_of text bytes utf8 e))
 
@@ -67,5 +74,6 @@ texts_are text bytes i j utf8 e le first second =
     ∙ sym (chars-append (take i bytes) (drop i bytes) one)
     ∙ ap chars (take-append-drop i bytes)
 
+-- a place in the bytes is one in their text
 pub place_from : (text bytes : List ℕ) (n : ℕ) → IsUtf8 bytes → chars bytes ≡ text → IsCharBoundary bytes n → IsPlace text n
 place_from text bytes n utf8 e h = subst (λ (b : List ℕ). IsCharBoundary b n) (sym (bytes_of text bytes utf8 e)) h

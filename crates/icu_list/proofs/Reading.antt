@@ -17,14 +17,17 @@ use Rattle.icu_list.specs.declared.error.DataError.TheVariants.{InvalidPattern, 
 use Rattle.icu_list.specs.declared.error.DataError.{DataError}
 use Rattle.std.proofs.lemmas.Bool.{leb-true, leb-false}
 
+-- the characters of `{0}`
 pub first_characters : chars (codes "{0}") ≡ first_item
 unfolding chars
 first_characters = refl
 
+-- the characters of `{1}`
 pub second_characters : chars (codes "{1}") ≡ second_item
 unfolding chars
 second_characters = refl
 
+-- a text without first place has no pattern
 pub no_first : (text : List ℕ) → cut (chars (codes "{0}")) text ≡ None → pattern_of text ≡ None
 no_first text h = ap (λ (w : List ℕ). pattern_behind (cut w text)) (sym first_characters) ∙ ap pattern_behind h
 
@@ -35,16 +38,19 @@ behind_first text prefix rest h =
     ap (λ (w : List ℕ). pattern_behind (cut w text)) (sym first_characters) ∙ ap pattern_behind h
     ∙ ap (λ (w : List ℕ). pattern_by prefix (cut w prefix) (cut w rest)) (sym second_characters)
 
+-- nor has one whose second place stands before the first
 pub early_second : (text prefix rest : List ℕ) (x : List ℕ × List ℕ) → cut (chars (codes "{0}")) text ≡ Some (prefix, rest)
     → cut (chars (codes "{1}")) prefix ≡ Some x → pattern_of text ≡ None
 early_second text prefix rest x h e =
     behind_first text prefix rest h ∙ ap (λ o. pattern_by prefix o (cut (chars (codes "{1}")) rest)) e
 
+-- nor has one without second place
 pub no_second : (text prefix rest : List ℕ) → cut (chars (codes "{0}")) text ≡ Some (prefix, rest)
     → cut (chars (codes "{1}")) prefix ≡ None → cut (chars (codes "{1}")) rest ≡ None → pattern_of text ≡ None
 no_second text prefix rest h e f =
     behind_first text prefix rest h ∙ ap (λ o. pattern_by prefix o (cut (chars (codes "{1}")) rest)) e ∙ ap (pattern_by prefix None) f
 
+-- a text with both places has a pattern
 pub all_parts : (text prefix rest between suffix : List ℕ) → cut (chars (codes "{0}")) text ≡ Some (prefix, rest)
     → cut (chars (codes "{1}")) prefix ≡ None → cut (chars (codes "{1}")) rest ≡ Some (between, suffix)
     → pattern_of text ≡ Some (pattern prefix between suffix)
@@ -53,20 +59,25 @@ all_parts text prefix rest between suffix h e f =
 
 -- ---- what is asked of a pattern
 
+-- a prefix that isn't allowed is refused
 pub not_allowed_prefix : (a b : Bool) (p : Pattern) → (a || is_empty p.prefix) ≡ false → joiner_by a b (Some p) ≡ Err InvalidPattern
 not_allowed_prefix a b p h = rw h refl
 
+-- a suffix that isn't allowed is refused
 pub not_allowed_suffix : (a b : Bool) (p : Pattern) → (a || is_empty p.prefix) ≡ true → (b || is_empty p.suffix) ≡ false → joiner_by a b (Some p) ≡ Err InvalidPattern
 not_allowed_suffix a b p h k = rw (h, k) refl
 
+-- too many bytes are refused
 pub not_stored : (a b : Bool) (p : Pattern) → (a || is_empty p.prefix) ≡ true → (b || is_empty p.suffix) ≡ true
     → nat_le (byte_length (p.prefix ++ p.between)) most_bytes ≡ false → joiner_by a b (Some p) ≡ Err CannotStore
 not_stored a b p h k l = rw (h, k, l) refl
 
+-- a pattern that is allowed and small enough is accepted
 pub stored : (a b : Bool) (p : Pattern) → (a || is_empty p.prefix) ≡ true → (b || is_empty p.suffix) ≡ true
     → nat_le (byte_length (p.prefix ++ p.between)) most_bytes ≡ true → joiner_by a b (Some p) ≡ Ok p
 stored a b p h k l = rw (h, k, l) refl
 
+-- the bytes before the second place
 pub bytes_before : (p b : List ℕ) → IsUtf8 p → IsUtf8 b → byte_length (chars p ++ chars b) ≡ length p + length b
 bytes_before p b up ub = ap byte_length (sym (chars-append p b up)) ∙ byte_length-chars (p ++ b) (IsUtf8-append p b up ub) ∙ length-append p b
 
@@ -81,12 +92,14 @@ is_empty-chars text utf8 b none some = by (chars text) (encodes-chars text utf8)
 
 -- ---- what storing a pattern gives
 
+-- the test of a number that is no greater
 pub nat_le_true : (a b : ℕ) → a ≤ b → nat_le a b ≡ true
 nat_le_true a b h = by (nat_le a b) refl where
   by : (t : Bool) → nat_le a b ≡ t → nat_le a b ≡ true
   by true e = e
   by false e = absurd (omega (arith, leb-false a b e))
 
+-- the test of a number that is greater
 nat_le_false : (a b : ℕ) → b < a → nat_le a b ≡ false
 nat_le_false a b h = by (nat_le a b) refl where
   by : (t : Bool) → nat_le a b ≡ t → nat_le a b ≡ false
@@ -95,11 +108,13 @@ nat_le_false a b h = by (nat_le a b) refl where
 
 module _ (a b : Bool) (text : List ℕ) (p : Pattern) (n : ℕ) (of : pattern_of text ≡ Some p) (before : (a || is_empty p.prefix) ≡ true) (behind : (b || is_empty p.suffix) ≡ true)
     (size : byte_length (p.prefix ++ p.between) ≡ n) where
+  -- the pattern that is read
   pub read_ok : (r : Result Pattern DataError) → IfOk r (λ q. q ≡ p) → IfOk r (λ q. n ≤ 255) → IfOk r (λ q. joiner a b text ≡ Ok q)
   read_ok (Ok q) same fits =
       ap (joiner_by a b) of ∙ stored a b p before behind (nat_le_true (byte_length (p.prefix ++ p.between)) 255 (omega (arith, size, fits))) ∙ ap (λ (x : Pattern). Ok x) (sym same)
   read_ok (Err e) same fits = tt
 
+  -- the fault that is answered
   pub read_err : (r : Result Pattern DataError) → IfErr r (IsFaultStoring n) → IfErr r (IsFaultOf (joiner a b text))
   read_err (Ok q) h = tt
   read_err (Err InvalidPattern) h = absurd (let e = h.0 in cc)
@@ -111,14 +126,17 @@ module _ (a b : Bool) (text : List ℕ) (p : Pattern) (n : ℕ) (of : pattern_of
 
 -- ---- middle patterns
 
+-- both parts of a test
 and_both : (a b : Bool) → (a && b) ≡ true → (a ≡ true) × (b ≡ true)
 and_both true true h = (refl, refl)
 and_both true false h = absurd cc
 and_both false b h = absurd cc
 
+-- a middle pattern
 middle_yes : (text : List ℕ) → is_middle text ≡ true → middle text ≡ Ok (take (length text - 6) (drop 3 text))
 middle_yes text h = rw h refl
 
+-- a text that is no middle pattern
 pub middle_no : (text : List ℕ) → is_middle text ≡ false → middle text ≡ Err InvalidPattern
 middle_no text h = rw h refl
 

@@ -1,4 +1,5 @@
--- Conditions by their pattern texts. A pattern that is a condition has one expression (the law `conditions_apply`).
+-- Conditions by their pattern texts. A pattern that is a condition has one expression (the law
+-- `conditions_apply`).
 use Rattle.std.specs.Prelude.{ℕ, List, Bool, true, false, Result, Ok, Err}
 use Rattle.std.proofs.Common.{inl, inr}
 use Rattle.lazy_dfa.specs.Expression.{Expression}

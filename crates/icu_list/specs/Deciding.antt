@@ -11,23 +11,28 @@ use Rattle.lazy_dfa.specs.MeaningLaws.{chain_le, Reading_le}
 abbrev pub Tested : Type 0 → Type 0
 Tested P = P ⊎ (P → ⊥)
 
+-- equivalent facts
 as_tested : {P Q : Type 0} → (P → Q) → (Q → P) → Tested P → Tested Q
 as_tested f g (inl p) = inl (f p)
 as_tested f g (inr non) = inr (λ q. non (g q))
 
+-- a fact that holds, and another
 and_then : {P Q : Type 0} → P → Tested Q → Tested (P × Q)
 and_then p (inl q) = inl (p, q)
 and_then p (inr non) = inr (λ h. non h.1)
 
+-- two facts
 both : {P Q : Type 0} → Tested P → (P → Tested Q) → Tested (P × Q)
 both (inl p) q = and_then p (q p)
 both (inr non) q = inr (λ h. non h.0)
 
+-- one of two facts
 one_of : {P Q : Type 0} → Tested P → Tested Q → Tested (P ⊎ Q)
 one_of (inl p) q = inl (inl p)
 one_of (inr non) (inl q) = inl (inr q)
 one_of (inr non) (inr none) = inr (λ h. elim h [ inl p ↦ non p | inr q ↦ none q ])
 
+-- whether two numbers are equal
 same : (i j : ℕ) → Tested (i ≡ j)
 same i j = by (eqb i j) refl where
   by : (b : Bool) → eqb i j ≡ b → Tested (i ≡ j)
@@ -39,6 +44,7 @@ less : (i j : ℕ) → Tested (i < j)
 less i zero = inr (λ h. omega (arith, h))
 less i (suc j) = elim (same i j) [ inl e ↦ inl (omega (arith, e)) | inr non ↦ as_tested (λ h. omega (arith, h)) (λ h. omega (arith, h, non)) (less i j) ]
 
+-- some number up to n
 some_at : (n : ℕ) (P : ℕ → Type 0) → Tested (P n) → Tested ((k : ℕ) × (k < n) × P k) → Tested ((k : ℕ) × (k < suc n) × P k)
 some_at n P here (inl s) = inl (s.0, omega (arith, s.1), s.2)
 some_at n P (inl p) (inr none) = inl (n, omega arith, p)
@@ -66,19 +72,23 @@ module _ (R : ℕ → ℕ → Type 0) (up : (i j : ℕ) → R i j → i ≤ j) (
   abbrev Moves : ℕ → ℕ → Type 0
   Moves i j = (k : ℕ) × (k < suc j) × ((i < k) × (R i k × Chain R k j))
 
+  -- a chain that begins with a step, by whether that gets on
   moved_by : (i k j : ℕ) → R i k → Chain R k j → (k ≡ j) ⊎ Moves k j → Tested (i ≡ k) → (i ≡ j) ⊎ Moves i j
   moved_by i k j r c more (inl e) = subst (λ (x : ℕ). (x ≡ j) ⊎ Moves x j) (sym e) more
   moved_by i k j r c more (inr non) = let a = up i k r in let b = chain_le up k j c in inr (k, omega arith, (omega (arith, a, non), (r, c)))
 
+  -- a chain ends where it begins, or gets on
   moved : (i j : ℕ) → Chain R i j → (i ≡ j) ⊎ Moves i j
   moved i j done = inl refl
   moved i j (step {k = k} r c) = moved_by i k j r c (moved k j c) (same i k)
 
+  -- a chain, by these two cases
   chain_by : (i j : ℕ) → Tested (i ≡ j) → Tested (Moves i j) → Tested (Chain R i j)
   chain_by i j (inl e) m = inl (subst (λ (x : ℕ). Chain R i x) e done)
   chain_by i j (inr non) (inl m) = inl (step m.2.1.0 m.2.1.1)
   chain_by i j (inr non) (inr none) = inr (λ c. elim (moved i j c) [ inl e ↦ non e | inr m ↦ none m ])
 
+  -- whether there is a chain
   chain : (n i j : ℕ) → j ≤ i + n → Tested (Chain R i j)
   chain zero i j le = chain_by i j (same i j) (inr (λ m. omega (arith, m.1, m.2.0)))
   chain (suc n) i j le =
@@ -92,6 +102,7 @@ module _ (R : ℕ → ℕ → Type 0) (up : (i j : ℕ) → R i j → i ≤ j) (
 
 -- ---- expressions
 
+-- whether a set reads the character at a place
 reads_at : (s : List ℕ) (set : CharacterSet) (i : ℕ) → Tested (ReadsAt s set i)
 reads_at s set i = by (slice_get s i) refl where
   inside : (c : ℕ) → slice_get s i ≡ Some c → (b : Bool) → contains set c ≡ b → Tested (ReadsAt s set i)
@@ -102,10 +113,12 @@ reads_at s set i = by (slice_get s i) refl where
   by None h = inr (λ r. let t = r.there in cc)
   by (Some c) h = inside c h (contains set c) refl
 
+-- whether the end stands at a place
 placed : (end : Option ℕ) (i : ℕ) → Tested (end ≡ Some i)
 placed None i = inr (λ h. cc)
 placed (Some j) i = elim (same j i) [ inl e ↦ inl (let e' = e in cc) | inr non ↦ inr (λ h. non (let h' = h in cc)) ]
 
+-- whether an expression reads from one place to another
 pub reading : (s : List ℕ) (end : Option ℕ) (e : Expression) (i j : ℕ) → Tested (Reading s end e i j)
 reading s end Nothing i j = same i j
 reading s end (OneOf set) i j = both (same j (i + 1)) (λ h. reads_at s set i)
@@ -119,6 +132,7 @@ reading s end (Plus a) i j =
     (λ k. reading s end a i k) (λ k. chain (Reading s end a) (Reading_le s end a) (λ m l. reading s end a m l) j k j (omega arith))
 reading s end (Optional a) i j = one_of (same i j) (reading s end a i j)
 
+-- what is read stays in the text
 within : (s : List ℕ) (end : Option ℕ) (e : Expression) (i j : ℕ) → i ≤ length s → Reading s end e i j → j ≤ length s
 within s end Nothing i j le h = omega (arith, h)
 within s end (OneOf set) i j le h = let w = slice_get_within s i h.1.character h.1.there in omega (arith, h.0)

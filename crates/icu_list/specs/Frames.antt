@@ -6,6 +6,7 @@ use Rattle.icu_list.specs.Pattern.{Pattern}
 use Rattle.icu_list.specs.Patterns.{Patterns, Closing, end_for, two_for}
 use Rattle.icu_list.specs.declared.provider.joints.Joints.{Joints}
 
+-- the texts before, between and behind the items
 pub record Frame : Type 0 where
   pub before : List ℕ
   pub first : List ℕ
@@ -13,6 +14,7 @@ pub record Frame : Type 0 where
   pub last : List ℕ
   pub behind : List ℕ
 
+-- the frame that the code holds
 abbrev pub frame_of : Joints → Frame
 frame_of j = record { before = chars j.before.now; first = chars j.first.now; between = chars j.middle.now; last = chars j.last.now; behind = chars j.behind.now }
 
@@ -20,9 +22,11 @@ frame_of j = record { before = chars j.before.now; first = chars j.first.now; be
 abbrev pub frame_two : Pattern → Frame
 frame_two p = record { before = p.prefix; first = p.between; between = p.between; last = p.between; behind = p.suffix }
 
+-- the texts round three items or more
 abbrev pub frame_more : Patterns → Closing → Frame
 frame_more p end = record { before = p.start.prefix; first = p.start.between; between = p.middle; last = end.between; behind = end.suffix }
 
+-- the texts round the items of a list
 abbrev pub frame_for : Patterns → Bool → List ℕ → Frame
 frame_for p true last = frame_two (two_for p last)
 frame_for p false last = frame_more p (end_for p last)

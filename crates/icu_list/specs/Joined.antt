@@ -16,12 +16,15 @@ module _ {A : Type 0} (literal : List ℕ → List A) where
   abbrev pub two : Pattern → List A → List A → List A
   two p a b = literal p.prefix ++ (a ++ (literal p.between ++ (b ++ literal p.suffix)))
 
+  -- the start, with an item and the rest in its places
   abbrev pub start : Opening → List A → List A → List A
   start p a rest = literal p.prefix ++ (a ++ (literal p.between ++ rest))
 
+  -- the middle, with an item and the rest in its places
   abbrev pub middle : List ℕ → List A → List A → List A
   middle between a rest = a ++ (literal between ++ rest)
 
+  -- the end, with the last two items in its places
   abbrev pub end : Closing → List A → List A → List A
   end p a b = a ++ (literal p.between ++ (b ++ literal p.suffix))
 
@@ -38,6 +41,7 @@ module _ {A : Type 0} (literal : List ℕ → List A) where
   nested p last (a ∷ b ∷ []) = two (two_for p last) a b
   nested p last (a ∷ b ∷ c ∷ items) = start p.start a (rest p.middle (end_for p last) b (c ∷ items))
 
+-- a text as it is written
 abbrev pub as_it_is : List ℕ → List ℕ
 as_it_is text = text
 
@@ -49,12 +53,15 @@ joined p items = nested as_it_is p (last_of items) items
 abbrev pub element_name : PartName
 element_name = record { category = chars (codes "list"); value = chars (codes "element") }
 
+-- the part of pattern texts
 abbrev pub literal_name : PartName
 literal_name = record { category = chars (codes "list"); value = chars (codes "literal") }
 
+-- an item inside its part
 abbrev pub element : List Mark → List Mark
 element = inside element_name
 
+-- a pattern's text inside its part
 abbrev pub literal : List ℕ → List Mark
 literal text = inside literal_name (plain text)
 

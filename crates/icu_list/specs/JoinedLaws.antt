@@ -17,21 +17,26 @@ use Rattle.icu_list.specs.Conditions.{applies}
 
 -- ---- the characters of the marked text are the text
 
+-- the characters of a pattern's text
 characters_literal : (text : List ℕ) → characters (literal text) ≡ text
 characters_literal text = characters-inside literal_name (plain text) ∙ characters-plain text
 
+-- the characters of three marked texts
 characters_three : (a : List ℕ) (m k : List Mark) (t u : List ℕ) → characters m ≡ t → characters k ≡ u → characters (m ++ (literal a ++ k)) ≡ t ++ (a ++ u)
 characters_three a m k t u e f = characters-both m (literal a ++ k) e (characters-both (literal a) k (characters_literal a) f)
 
 module _ {X : Type 0} (text : X → List ℕ) (marked : X → List Mark) (same : (x : X) → characters (marked x) ≡ text x) where
+  -- the characters of an item
   item : (x : X) → characters (element (marked x)) ≡ text x
   item x = characters-inside element_name (marked x) ∙ same x
 
+  -- the characters of the last two items
   end_characters : (p : Closing) (m : List Mark) (t : List ℕ) (x : X) → characters m ≡ t → characters (end literal p m (element (marked x))) ≡ end as_it_is p t (text x)
   end_characters p m t x e =
       characters_three p.between m (element (marked x) ++ literal p.suffix) t (text x ++ p.suffix) e
       (characters-both (element (marked x)) (literal p.suffix) (item x) (characters_literal p.suffix))
 
+  -- the characters of an item and those behind it
   rest_characters : (between : List ℕ) (p : Closing) (m : List Mark) (t : List ℕ) (xs : List X) → characters m ≡ t
       → characters (rest literal between p m (map element (map marked xs))) ≡ rest as_it_is between p t (map text xs)
   rest_characters between p m t [] e = e
@@ -40,6 +45,7 @@ module _ {X : Type 0} (text : X → List ℕ) (marked : X → List Mark) (same :
       characters_three between m (rest literal between p (element (marked x)) (element (marked y) ∷ map element (map marked xs))) t (rest as_it_is between p (text x) (text y ∷ map text xs)) e
       (rest_characters between p (element (marked x)) (text x) (y ∷ xs) (item x))
 
+  -- the characters of all items
   nested_characters : (p : Patterns) (last : List ℕ) (xs : List X) → characters (nested literal p last (map element (map marked xs))) ≡ nested as_it_is p last (map text xs)
   nested_characters p last [] = refl
   nested_characters p last (x ∷ []) = item x
@@ -54,31 +60,38 @@ module _ {X : Type 0} (text : X → List ℕ) (marked : X → List Mark) (same :
       (characters_three p.start.between (element (marked x)) inner (text x) (rest as_it_is p.middle (end_for p last) (text y) (text z ∷ map text xs)) (item x)
       (rest_characters p.middle (end_for p last) (element (marked y)) (text y) (z ∷ xs) (item y)))
 
+-- the characters of the marked text are the text
 pub joined_characters : {X : Type 0} (p : Patterns) (xs : List X) (text : X → List ℕ) (marked : X → List Mark) → ((x : X) → characters (marked x) ≡ text x)
     → characters (marked_joined p (map text xs) (map marked xs)) ≡ joined p (map text xs)
 joined_characters p xs text marked same = nested_characters text marked same p (last_of (map text xs)) xs
 
 -- ---- the marks nest
 
+-- a pattern's text nests
 nests_literal : (text : List ℕ) → Nests (literal text)
 nests_literal text = Nests-inside literal_name (plain text) (Nests-plain text)
 
+-- three marked texts nest
 nests_three : (a : List ℕ) (m k : List Mark) → Nests m → Nests k → Nests (m ++ (literal a ++ k))
 nests_three a m k n o = Nests-append m (literal a ++ k) n (Nests-append (literal a) k (nests_literal a) o)
 
 module _ {X : Type 0} (marked : X → List Mark) (nests : (x : X) → Nests (marked x)) where
+  -- an item nests
   nests_item : (x : X) → Nests (element (marked x))
   nests_item x = Nests-inside element_name (marked x) (nests x)
 
+  -- the last item nests
   nests_last : (s : List ℕ) (x : X) → Nests (element (marked x) ++ literal s)
   nests_last s x = Nests-append (element (marked x)) (literal s) (nests_item x) (nests_literal s)
 
+  -- an item and those behind it nest
   rest_nests : (between : List ℕ) (p : Closing) (m : List Mark) (xs : List X) → Nests m → Nests (rest literal between p m (map element (map marked xs)))
   rest_nests between p m [] n = n
   rest_nests between p m (x ∷ []) n = nests_three p.between m (element (marked x) ++ literal p.suffix) n (nests_last p.suffix x)
   rest_nests between p m (x ∷ y ∷ xs) n =
       nests_three between m (rest literal between p (element (marked x)) (element (marked y) ∷ map element (map marked xs))) n (rest_nests between p (element (marked x)) (y ∷ xs) (nests_item x))
 
+  -- all items nest
   nested_nests : (p : Patterns) (last : List ℕ) (xs : List X) → Nests (nested literal p last (map element (map marked xs)))
   nested_nests p last [] = nothing
   nested_nests p last (x ∷ []) = nests_item x
@@ -91,18 +104,22 @@ module _ {X : Type 0} (marked : X → List Mark) (nests : (x : X) → Nests (mar
       Nests-append (literal p.start.prefix) (element (marked x) ++ (literal p.start.between ++ inner)) (nests_literal p.start.prefix)
       (nests_three p.start.between (element (marked x)) inner (nests_item x) (rest_nests p.middle (end_for p last) (element (marked y)) (z ∷ xs) (nests_item y)))
 
+-- the marked text nests
 pub joined_nests : {X : Type 0} (p : Patterns) (xs : List X) (text : X → List ℕ) (marked : X → List Mark) → ((x : X) → Nests (marked x))
     → Nests (marked_joined p (map text xs) (map marked xs))
 joined_nests p xs text marked nests = nested_nests marked nests p (last_of (map text xs)) xs
 
 -- ---- the text lies in the hint
 
+-- a length some times
 Hinted-times : (a : LengthHint) (x n : ℕ) → Hinted a x → Hinted (hint_times a n) (x * n)
 Hinted-times a x n p = grind (arith, common_steps)
 
+-- the first of two
 Hinted-left : (a b : LengthHint) (x : ℕ) → Hinted a x → Hinted (hint_either a b) x
 Hinted-left a b x p = grind (arith, common_steps)
 
+-- the second of two
 Hinted-right : (a b : LengthHint) (x : ℕ) → Hinted b x → Hinted (hint_either a b) x
 Hinted-right a b x p = grind (arith, common_steps)
 
@@ -115,6 +132,7 @@ closing_hinted default (Some s) last = by (applies s.condition last) where
   by true = Hinted-right (pattern_hint (whole default)) (pattern_hint (whole s.pattern)) (byte_length (texts (whole s.pattern))) (Hinted-exact (byte_length (texts (whole s.pattern))))
   by false = Hinted-left (pattern_hint (whole default)) (pattern_hint (whole s.pattern)) (byte_length (texts (whole default))) (Hinted-exact (byte_length (texts (whole default))))
 
+-- the same of a pair
 pattern_hinted : (default : Pattern) (special : Option SpecialPattern) (last : List ℕ)
     → Hinted (choice_hint default special) (byte_length (texts (pattern_for default special last)))
 pattern_hinted default None last = Hinted-exact (byte_length (texts default))
@@ -123,6 +141,7 @@ pattern_hinted default (Some s) last = by (applies s.condition last) where
   by true = Hinted-right (pattern_hint default) (pattern_hint s.pattern) (byte_length (texts s.pattern)) (Hinted-exact (byte_length (texts s.pattern)))
   by false = Hinted-left (pattern_hint default) (pattern_hint s.pattern) (byte_length (texts default)) (Hinted-exact (byte_length (texts default)))
 
+-- the pattern of two items lies in its hint
 pair_hinted : (e : Ending) (pair : Option Pair) (last : List ℕ)
     → Hinted (pair_hint e pair) (byte_length (texts (two_by (closing_for e.default e.special last) pair last)))
 pair_hinted e None last = closing_hinted e.default e.special last
@@ -138,6 +157,7 @@ module _ {X : Type 0} (text : X → List ℕ) (hint : X → LengthHint) (hinted 
   total [] = 0
   total (x ∷ xs) = byte_length (text x) + total xs
 
+  -- the items lie in their hint
   fold_hinted : (h : LengthHint) (n : ℕ) (xs : List X) → Hinted h n → Hinted (fold hint_sum h (map hint xs)) (n + total xs)
   fold_hinted h n [] p = subst (λ (m : ℕ). Hinted h m) (omega arith) p
   fold_hinted h n (x ∷ xs) p =
@@ -163,6 +183,7 @@ module _ {X : Type 0} (text : X → List ℕ) (hint : X → LengthHint) (hinted 
       let more = rest_bytes between c (text x) y ys in
       omega arith
 
+  -- all of the text lies in the hint
   nested_hinted : (p : Patterns) (last : List ℕ) (xs : List X) → Hinted (list_hint p (map hint xs)) (byte_length (nested as_it_is p last (map text xs)))
   nested_hinted p last [] = together p [] 0 0 (omega arith) (Hinted-exact 0)
   nested_hinted p last (x ∷ []) = together p (x ∷ []) 0 (byte_length (text x)) (omega arith) (Hinted-exact 0)
@@ -189,6 +210,7 @@ module _ {X : Type 0} (text : X → List ℕ) (hint : X → LengthHint) (hinted 
       (Hinted-sum (opening_hint p.start) (hint_times (text_hint p.middle) (length (map hint xs))) (byte_length (p.start.prefix ++ p.start.between)) (byte_length p.middle * length xs) (Hinted-exact (byte_length (p.start.prefix ++ p.start.between))) middles)
       (closing_hinted p.end.default p.end.special last))
 
+-- the text of a list lies in its hint
 pub joined_hinted : {X : Type 0} (p : Patterns) (xs : List X) (text : X → List ℕ) (hint : X → LengthHint) → ((x : X) → Hinted (hint x) (byte_length (text x)))
     → Hinted (list_hint p (map hint xs)) (byte_length (joined p (map text xs)))
 joined_hinted p xs text hint hinted = nested_hinted text hint hinted p (last_of (map text xs)) xs

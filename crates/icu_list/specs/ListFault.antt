@@ -11,6 +11,7 @@ use Rattle.icu_list.specs.PatternTexts.{joiner, middle}
 use Rattle.icu_list.specs.declared.error.DataError.{DataError}
 use Rattle.icu_list.specs.declared.error.DataError.TheVariants.{Condition, NoMemory}
 
+-- the texts of a special pattern
 pub record SpecialTexts : Type 0 where
   pub condition : List ℕ
   pub pattern : List ℕ
@@ -24,17 +25,21 @@ pub record ListTexts : Type 0 where
   pub end_special : Option SpecialTexts
   pub pair_special : Option SpecialTexts
 
+-- the texts of patterns without specials
 abbrev pub without_specials : List ℕ → List ℕ → List ℕ → List ℕ → ListTexts
 without_specials start middle end pair = record { start = start; middle = middle; end = end; pair = pair; end_special = None; pair_special = None }
 
+-- why a text was refused, if it was
 abbrev pub fault : {A : Type 0} → Result A DataError → Option DataError
 fault (Ok x) = None
 fault (Err e) = Some e
 
+-- why a text is no condition, if it is none
 abbrev pub condition_fault : Result Expression ConditionError → Option DataError
 condition_fault (Ok e) = None
 condition_fault (Err error) = Some (Condition error)
 
+-- the first of some faults
 abbrev pub first_fault : List (Option DataError) → Option DataError
 first_fault [] = None
 first_fault (None ∷ faults) = first_fault faults
@@ -45,6 +50,7 @@ abbrev pub special_faults : Bool → Option SpecialTexts → List (Option DataEr
 special_faults prefix None = []
 special_faults prefix (Some s) = condition_fault (condition_of s.condition) ∷ fault (joiner prefix true s.pattern) ∷ []
 
+-- the first fault of a list's texts
 abbrev pub list_fault : ListTexts → Option DataError
 list_fault t =
     first_fault (fault (joiner true false t.start) ∷ fault (middle t.middle) ∷ fault (joiner false true t.end) ∷ fault (joiner true true t.pair)

@@ -8,6 +8,7 @@ pub record Pattern : Type 0 where
   pub between : List ℕ
   pub suffix : List ℕ
 
+-- the pattern of three texts
 abbrev pub pattern : List ℕ → List ℕ → List ℕ → Pattern
 pattern p b s = record { prefix = p; between = b; suffix = s }
 

@@ -1,4 +1,5 @@
--- Patterns as JSON objects: `string` is the text without placeholders, and `index_1` the place of the second item in it.
+-- Patterns as JSON objects: `string` is the text without placeholders, and `index_1` the place of
+-- the second item in it, in bytes.
 use Rattle.std.specs.Prelude.{◌≡◌, ℕ, ◌≤◌, List, ◌++◌, Option, Some, codes, chars, option_and_then, encode_utf8_all}
 use Rattle.serde_json.specs.Data.{Data, object, member, no_members, number, unsigned, string}
 use Rattle.writeable_core.specs.Hint.{byte_length}
@@ -22,6 +23,7 @@ pub record IsStoredPlace (text : List ℕ) (place : ℕ) : Type 0 where
 abbrev pub string_of : Data → Option (List ℕ)
 string_of d = option_and_then as_str (get (codes "string") d)
 
+-- the number of the member `index_1`
 abbrev pub place_of : Data → Option ℕ
 place_of d = option_and_then as_u64 (option_and_then as_number (get (codes "index_1") d))
 
@@ -38,6 +40,7 @@ pub record IsOfJson (d : Data) (p : Pattern) : Type 0 where
 abbrev pub HasNoPattern : Data → Type 0
 HasNoPattern d = (text : List ℕ) (place : ℕ) → string_of d ≡ Some text → place_of d ≡ Some place → IsStoredPlace (chars text) place → ⊥
 
+-- why an object is no pattern, unless memory ran out
 abbrev pub IsJsonFault : Data → DataError → Type 0
 IsJsonFault d NotJsonForm = HasNoPattern d
 IsJsonFault d NoMemory = Unit {0}
@@ -46,6 +49,7 @@ IsJsonFault d CannotStore = ⊥
 IsJsonFault d (Condition error) = ⊥
 IsJsonFault d MissingLocale = ⊥
 
+-- the place isn't one that is stored, or memory ran out
 abbrev pub IsUnplaced : List ℕ → ℕ → DataError → Type 0
 IsUnplaced text place NotJsonForm = IsStoredPlace text place → ⊥
 IsUnplaced text place NoMemory = Unit {0}

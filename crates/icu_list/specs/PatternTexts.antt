@@ -20,6 +20,7 @@ cut word (c ∷ text) =
 abbrev pub first_item : List ℕ
 first_item = codes "{0}"
 
+-- where the second item stands
 abbrev pub second_item : List ℕ
 second_item = codes "{1}"
 
@@ -30,6 +31,7 @@ pattern_by prefix None (Some x) = Some (pattern prefix x.0 x.1)
 pattern_by prefix None None = None
 pattern_by prefix (Some early) x = None
 
+-- a pattern, by the cut at the first item
 abbrev pub pattern_behind : Option (List ℕ × List ℕ) → Option Pattern
 pattern_behind None = None
 pattern_behind (Some x) = pattern_by x.0 (cut second_item x.0) (cut second_item x.1)
@@ -38,6 +40,7 @@ pattern_behind (Some x) = pattern_by x.0 (cut second_item x.0) (cut second_item 
 abbrev pub pattern_of : List ℕ → Option Pattern
 pattern_of text = pattern_behind (cut first_item text)
 
+-- the text has no character
 abbrev pub is_empty : List ℕ → Bool
 is_empty [] = true
 is_empty (c ∷ text) = false
@@ -54,10 +57,12 @@ joiner_conditions prefix suffix p =
     ∷ (nat_le (byte_length (p.prefix ++ p.between)) most_bytes, CannotStore)
     ∷ []
 
+-- a value, unless there is a fault
 abbrev pub unless : {A : Type 0} → A → Option DataError → Result A DataError
 unless x None = Ok x
 unless x (Some fault) = Err fault
 
+-- a pattern, where its prefix and its suffix are allowed and it can be stored
 abbrev pub joiner_by : Bool → Bool → Option Pattern → Result Pattern DataError
 joiner_by prefix suffix None = Err InvalidPattern
 joiner_by prefix suffix (Some p) = unless p (first_failure (joiner_conditions prefix suffix p))

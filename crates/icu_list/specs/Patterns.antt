@@ -19,14 +19,17 @@ pub record SpecialClosing : Type 0 where
   pub condition : List ℕ
   pub pattern : Closing
 
+-- the end, with its special
 pub record Ending : Type 0 where
   pub default : Closing
   pub special : Option SpecialClosing
 
+-- a special pattern of two items
 pub record SpecialPattern : Type 0 where
   pub condition : List ℕ
   pub pattern : Pattern
 
+-- the pattern of two items, with its special
 pub record Pair : Type 0 where
   pub default : Pattern
   pub special : Option SpecialPattern
@@ -38,9 +41,11 @@ pub record Patterns : Type 0 where
   pub end : Ending
   pub pair : Option Pair
 
+-- a start pattern
 abbrev pub opening_of : Pattern → Opening
 opening_of p = record { prefix = p.prefix; between = p.between }
 
+-- an end pattern
 abbrev pub closing_of : Pattern → Closing
 closing_of p = record { between = p.between; suffix = p.suffix }
 
@@ -48,10 +53,12 @@ closing_of p = record { between = p.between; suffix = p.suffix }
 abbrev pub whole : Closing → Pattern
 whole c = pattern [] c.between c.suffix
 
+-- the special where its condition holds on the last item
 abbrev pub closing_for : Closing → Option SpecialClosing → List ℕ → Closing
 closing_for default None last = default
 closing_for default (Some special) last = if applies special.condition last then special.pattern else default
 
+-- the special where its condition holds on the last item
 abbrev pub pattern_for : Pattern → Option SpecialPattern → List ℕ → Pattern
 pattern_for default None last = default
 pattern_for default (Some special) last = if applies special.condition last then special.pattern else default
@@ -60,6 +67,7 @@ pattern_for default (Some special) last = if applies special.condition last then
 abbrev pub end_for : Patterns → List ℕ → Closing
 end_for p last = closing_for p.end.default p.end.special last
 
+-- the stored pair, or else the end
 abbrev pub two_by : Closing → Option Pair → List ℕ → Pattern
 two_by end None last = whole end
 two_by end (Some pair) last = pattern_for pair.default pair.special last

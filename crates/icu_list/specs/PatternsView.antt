@@ -6,15 +6,19 @@ use Rattle.icu_list.specs.Patterns.{SpecialClosing, Ending, SpecialPattern, Pair
 use Rattle.icu_list.specs.declared.provider.conditional.ConditionalListJoinerPattern.{ConditionalListJoinerPattern}
 use Rattle.icu_list.specs.declared.provider.conditional.SpecialCasePattern.{SpecialCasePattern}
 
+-- the special of an end
 abbrev pub special_closing_of : SpecialCasePattern → SpecialClosing
 special_closing_of s = record { condition = s.condition; pattern = closing_of s.pattern }
 
+-- an end with its special
 abbrev pub ending_of : ConditionalListJoinerPattern → Ending
 ending_of c = record { default = closing_of c.default; special = option_map special_closing_of c.special_case }
 
+-- the special of a pair
 abbrev pub special_pattern_of : SpecialCasePattern → SpecialPattern
 special_pattern_of s = record { condition = s.condition; pattern = s.pattern }
 
+-- a pair with its special
 abbrev pub pair_of : ConditionalListJoinerPattern → Pair
 pair_of c = record { default = c.default; special = option_map special_pattern_of c.special_case }
 

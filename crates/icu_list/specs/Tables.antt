@@ -8,6 +8,7 @@ use Rattle.icu_list.specs.declared.tables.ListKind.{ListKind}
 use Rattle.icu_list.specs.declared.tables.ListKind.TheVariants as kind
 use Rattle.icu_list.specs.declared.tables.ListTableRow.{ListTableRow}
 
+-- equal kinds of lists
 abbrev pub same_kind : ListKind → ListKind → Bool
 same_kind kind.And kind.And = true
 same_kind kind.Or kind.Or = true
@@ -19,6 +20,7 @@ same_kind kind.Or kind.Unit = false
 same_kind kind.Unit kind.And = false
 same_kind kind.Unit kind.Or = false
 
+-- equal lengths
 abbrev pub same_length : ListLength → ListLength → Bool
 same_length Wide Wide = true
 same_length Short Short = true

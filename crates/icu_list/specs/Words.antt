@@ -4,6 +4,7 @@ use Rattle.lazy_dfa.specs.Words.{words_of}
 use Rattle.icu_list.specs.declared.error.DataError.{DataError}
 use Rattle.icu_list.specs.declared.error.DataError.TheVariants.{InvalidPattern, CannotStore, Condition, MissingLocale, NotJsonForm, NoMemory}
 
+-- the text of an error
 abbrev pub IsText : DataError → List ℕ → Type 0
 IsText InvalidPattern text = text ≡ codes "Invalid list pattern"
 IsText CannotStore text = text ≡ codes "Found valid pattern that cannot be stored in ListFormatterPatterns"

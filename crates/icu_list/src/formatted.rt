@@ -64,11 +64,14 @@ impl<W: Writeable> Writeable for FormattedList<'_, W> {
         None
     }
 
-    ghost marked_text = { λ l. joined_characters l.patterns.now l.values.now W.text W.marked W.marked_text };
+    ghost marked_text = { λ l.
+        joined_characters l.patterns.now l.values.now W.text W.marked W.marked_text };
 
-    ghost marked_nests = { λ l. joined_nests l.patterns.now l.values.now W.text W.marked W.marked_nests };
+    ghost marked_nests = { λ l.
+        joined_nests l.patterns.now l.values.now W.text W.marked W.marked_nests };
 
-    ghost text_hinted = { λ l. joined_hinted l.patterns.now l.values.now W.text W.hint W.text_hinted };
+    ghost text_hinted = { λ l.
+        joined_hinted l.patterns.now l.values.now W.text W.hint W.text_hinted };
 }
 
 /// Writes two items or more, with the texts before, between and behind them.
@@ -80,10 +83,13 @@ fn write_joined<W: Writeable, S: Sink>(
     sink: &mut S,
 ) -> Result<(), SinkError>
     ensures ok { OnOk result (S.took sink.old
-        (whole as_it_is (frame_of joints.now) (W.text first.now) (map W.text inner.now) (W.text last.now)) sink.new) }
+        (whole as_it_is (frame_of joints.now) (W.text first.now) (map W.text inner.now)
+        (W.text last.now)) sink.new) }
     ensures err { OnErr result (TookPrefix S.took sink.old
-        (whole as_it_is (frame_of joints.now) (W.text first.now) (map W.text inner.now) (W.text last.now)) sink.new) }
-    ensures cause { HasCause (S.faults sink.old) (S.faults sink.new) (S.takes_memory sink.old) result }
+        (whole as_it_is (frame_of joints.now) (W.text first.now) (map W.text inner.now)
+        (W.text last.now)) sink.new) }
+    ensures cause { HasCause (S.faults sink.old) (S.faults sink.new)
+        (S.takes_memory sink.old) result }
 {
     write_behind(joints.before, first, sink)?;
     let mut between = joints.first;
@@ -104,10 +110,13 @@ fn write_parts_joined<W: Writeable, P: PartsWrite>(
     sink: &mut P,
 ) -> Result<(), SinkError>
     ensures ok { OnOk result (P.took_marks sink.old
-        (whole literal (frame_of joints.now) (element (W.marked first.now)) (map element (map W.marked inner.now)) (element (W.marked last.now))) sink.new) }
+        (whole literal (frame_of joints.now) (element (W.marked first.now))
+        (map element (map W.marked inner.now)) (element (W.marked last.now))) sink.new) }
     ensures err { OnErr result (TookPrefix P.took_marks sink.old
-        (whole literal (frame_of joints.now) (element (W.marked first.now)) (map element (map W.marked inner.now)) (element (W.marked last.now))) sink.new) }
-    ensures cause { HasCause (P.faults sink.old) (P.faults sink.new) (P.takes_memory sink.old) result }
+        (whole literal (frame_of joints.now) (element (W.marked first.now))
+        (map element (map W.marked inner.now)) (element (W.marked last.now))) sink.new) }
+    ensures cause { HasCause (P.faults sink.old) (P.faults sink.new)
+        (P.takes_memory sink.old) result }
 {
     write_parts_behind(joints.before, first, sink)?;
     let mut between = joints.first;
@@ -124,7 +133,8 @@ fn write_behind<W: Writeable, S: Sink>(text: &str, value: &W, sink: &mut S) -> R
     ensures ok { OnOk result (S.took sink.old (chars text.now ++ W.text value.now) sink.new) }
     ensures err { OnErr result
         (TookPrefix S.took sink.old (chars text.now ++ W.text value.now) sink.new) }
-    ensures cause { HasCause (S.faults sink.old) (S.faults sink.new) (S.takes_memory sink.old) result }
+    ensures cause { HasCause (S.faults sink.old) (S.faults sink.new)
+        (S.takes_memory sink.old) result }
 {
     sink.push_str(text)?;
     value.write_to(sink)?;
@@ -138,10 +148,13 @@ fn write_parts_behind<W: Writeable, P: PartsWrite>(
     sink: &mut P,
 ) -> Result<(), SinkError>
     ensures ok { OnOk result
-        (P.took_marks sink.old (literal (chars text.now) ++ element (W.marked value.now)) sink.new) }
+        (P.took_marks sink.old
+        (literal (chars text.now) ++ element (W.marked value.now)) sink.new) }
     ensures err { OnErr result
-        (TookPrefix P.took_marks sink.old (literal (chars text.now) ++ element (W.marked value.now)) sink.new) }
-    ensures cause { HasCause (P.faults sink.old) (P.faults sink.new) (P.takes_memory sink.old) result }
+        (TookPrefix P.took_marks sink.old
+        (literal (chars text.now) ++ element (W.marked value.now)) sink.new) }
+    ensures cause { HasCause (P.faults sink.old) (P.faults sink.new)
+        (P.takes_memory sink.old) result }
 {
     write_inside(LITERAL, &Text(text), sink)?;
     write_inside(ELEMENT, value, sink)?;
@@ -158,7 +171,8 @@ fn write_inside<W: Writeable, P: PartsWrite>(
         (P.took_marks sink.old (inside (part_name part) (W.marked value.now)) sink.new) }
     ensures err { OnErr result
         (TookPrefix P.took_marks sink.old (inside (part_name part) (W.marked value.now)) sink.new) }
-    ensures cause { HasCause (P.faults sink.old) (P.faults sink.new) (P.takes_memory sink.old) result }
+    ensures cause { HasCause (P.faults sink.old) (P.faults sink.new)
+        (P.takes_memory sink.old) result }
 {
     sink.open_part(part)?;
     value.write_to_parts(sink)?;

@@ -10,8 +10,8 @@ ghost use Rattle.icu_list.specs.LawsOfLists.{
 
 use lazy_dfa::a_pattern_is_read;
 
-/// A special pattern's condition applies exactly where it holds on the last item, and a pattern text
-/// is the condition of one expression at most.
+/// A special pattern's condition applies exactly where it holds on the last item, and a pattern
+/// text is the condition of one expression at most.
 pub fn conditions_apply()
     ensures applies { ConditionsApply }
     ensures one { OneExpression }

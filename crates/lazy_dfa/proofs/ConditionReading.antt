@@ -1,9 +1,9 @@
 -- What a pattern is read as says whether it is a condition, and else why it is none.
-use Rattle.std.proofs.Common.{◌≡◌, ◌≢◌, ℕ, ◌-◌, ◌≤◌, ◌<◌, Bool, true, false, List, [], ◌∷◌, ◌++◌}
-use Rattle.std.proofs.Common.{length, Option, Some, None, Result, Ok, Err, refl, sym, ap, subst, ◌∙◌}
+use Rattle.std.proofs.Common.{◌≡◌, ◌≢◌, ℕ, ◌-◌, ◌≤◌, Bool, true, false, List, [], ◌++◌}
+use Rattle.std.proofs.Common.{length, Option, Some, None, Result, Ok, Err, refl, sym, ap, ◌∙◌}
 use Rattle.std.proofs.Common.{arith, append-nil}
 use Rattle.std.specs.Prelude.{◌==◌, nat_le, if◌then◌else◌}
-use Rattle.std.proofs.lemmas.Bool.{le-leb, lt-leb, eqb-true, eqb-false}
+use Rattle.std.proofs.lemmas.Bool.{le-leb, lt-leb, eqb-true}
 use Rattle.std.proofs.lemmas.List.{nil_from_length}
 use Rattle.lazy_dfa.specs.Expression.{Expression}
 use Rattle.lazy_dfa.specs.Syntax.{alt, IsNoAlt, LongestAlt}
@@ -24,10 +24,11 @@ whole text e h =
     ap (parse (needed Alternatives text) Alternatives) (sym all)
     ∙ exact h [] at_end (needed Alternatives text) (omega (arith, ap length all))
 
--- a test that passes, and one that fails
+-- a test that passes
 passes : {X : Type 0} (b : Bool) (x y : X) → b ≡ true → (if b then x else y) ≡ x
 passes b x y e = ap (λ t. if t then x else y) e
 
+-- a test that fails
 fails : {X : Type 0} (b : Bool) (x y : X) → b ≡ false → (if b then x else y) ≡ y
 fails b x y e = ap (λ t. if t then x else y) e
 

@@ -1,5 +1,5 @@
--- The expression of a condition, or why a pattern is none, as a function. The grammar decides: it says
--- what `condition` and `IsRefused` say (the law `a_pattern_is_read` in src/laws.rt).
+-- The expression of a condition, or why a pattern is none, as a function. The grammar decides: the
+-- function says what `condition` and `IsRefused` say (the law `a_pattern_is_read` in src/laws.rt).
 use Rattle.std.specs.Prelude.{ℕ, ◌-◌, ◌==◌, nat_le, if◌then◌else◌, List, length, Option, Some, None}
 use Rattle.std.specs.Prelude.{Result, Ok, Err}
 use Rattle.lazy_dfa.specs.Expression.{Expression}

@@ -1,6 +1,22 @@
 //! Patterns of two items.
 
-ghost use Rattle.std.specs.Prelude.{◌≡◌, ◌+◌, ◌<◌, ◌≤◌, ◌++◌, ◌||◌, [], Ok, Some, None, MatchOption, IfOk, IfErr, length, codes};
+ghost use Rattle.std.specs.Prelude.{
+  ◌≡◌,
+  ◌+◌,
+  ◌<◌,
+  ◌≤◌,
+  ◌++◌,
+  ◌||◌,
+  [],
+  Ok,
+  Some,
+  None,
+  MatchOption,
+  IfOk,
+  IfErr,
+  length,
+  codes,
+};
 ghost use Rattle.std.specs.Str.{chars};
 ghost use Rattle.writeable_core.specs.Texts.{same_text};
 ghost use Rattle.writeable_core.specs.Hint.{byte_length, text_hint};
@@ -14,7 +30,15 @@ ghost use Rattle.icu_list.specs.PatternJson.{
   json_of,
 };
 ghost use Rattle.icu_list.specs.Pattern.{IsPlace, pattern, pattern_at, texts};
-ghost use Rattle.icu_list.specs.PatternTexts.{IsFaultOf, IsFaultStoring, cut, is_empty, joiner, most_bytes, pattern_of};
+ghost use Rattle.icu_list.specs.PatternTexts.{
+  IsFaultOf,
+  IsFaultStoring,
+  cut,
+  is_empty,
+  joiner,
+  most_bytes,
+  pattern_of,
+};
 
 use crate::DataError;
 use serde_json::{Value, json};
@@ -56,7 +80,8 @@ impl ListJoinerPattern {
     ) -> Result<Self, DataError>
         ensures ok { IfOk result
             (λ p. joiner allow_prefix allow_suffix (chars pattern.now) ≡ Ok p) }
-        ensures err { IfErr result (IsFaultOf (joiner allow_prefix allow_suffix (chars pattern.now))) }
+        ensures err { IfErr result
+            (IsFaultOf (joiner allow_prefix allow_suffix (chars pattern.now))) }
     {
         let Some((prefix, between, suffix)) = split(pattern) else {
             return Err(DataError::InvalidPattern);

@@ -37,7 +37,8 @@ impl Model for ListFormatterPatterns {
     ghost view = { λ p. patterns p.start p.middle p.end p.pair };
 
     ghost invariant = { λ p.
-        (p.start.suffix ≡ []) × (p.end.default.prefix ≡ []) × (prefix_of_special p.end.special_case ≡ []) };
+        (p.start.suffix ≡ []) × (p.end.default.prefix ≡ [])
+        × (prefix_of_special p.end.special_case ≡ []) };
 }
 
 impl ListFormatterPatterns {
@@ -65,9 +66,11 @@ impl ListFormatterPatterns {
         end: &str,
         pair: &str,
     ) -> Result<Self, DataError>
-        ensures ok { IfOk result (ArePatternsOf (chars start.now) (chars middle.now) (chars end.now) (chars pair.now)) }
+        ensures ok { IfOk result (ArePatternsOf (chars start.now) (chars middle.now)
+            (chars end.now) (chars pair.now)) }
         ensures err { IfErr result (IsFault (list_fault
-            (without_specials (chars start.now) (chars middle.now) (chars end.now) (chars pair.now)))) }
+            (without_specials (chars start.now) (chars middle.now)
+            (chars end.now) (chars pair.now)))) }
     {
         let start = ListJoinerPattern::try_from_str(alloc, start, true, false)?;
         let middle = middle_of(alloc, middle)?;
@@ -86,8 +89,8 @@ impl ListFormatterPatterns {
         })
     }
 
-    /// The patterns with a special end: its pattern replaces the end's before a last item on which its
-    /// condition holds.
+    /// The patterns with a special end: its pattern replaces the end's before a last item on which
+    /// its condition holds.
     pub fn with_end_special(self, special: SpecialCasePattern) -> Result<Self, DataError>
         ensures ok { IfOk result (λ p. p ≡ with_end self (special_closing_of special)) }
         ensures allowed { IfOk result (λ _. special.pattern.prefix ≡ []) }

@@ -45,7 +45,8 @@ impl SerdeDFA {
         ensures ok { IfOk result (λ dfa. dfa ≡ chars pattern.now) }
         ensures condition { IfOk result (λ _. (e : Expression) × condition (chars pattern.now) e) }
         ensures err { IfErr result (IsConditionFault (chars pattern.now)) }
-        ensures fault { IfErr result (IsFault (condition_fault (condition_of (chars pattern.now)))) }
+        ensures fault { IfErr result
+            (IsFault (condition_fault (condition_of (chars pattern.now)))) }
     {
         a_pattern_is_read();
         let mut condition = Condition::new(alloc, pattern).map_err(lifted)?;

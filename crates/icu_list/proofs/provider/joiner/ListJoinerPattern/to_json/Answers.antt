@@ -1,4 +1,4 @@
-use Rattle.std.proofs.Common.{◌≡◌, ◌≤◌, [], ◌∙◌, ap, arith, sym, subst, IfOk}
+use Rattle.std.proofs.Common.{◌≡◌, ◌∙◌, ap, arith, subst, IfOk}
 use Rattle.serde_json.specs.View.{view}
 use Rattle.icu_list.specs.Pattern.{Pattern}
 use Rattle.icu_list.specs.PatternJson.{IsOfJson, json_of}
