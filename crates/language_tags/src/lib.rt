@@ -13,6 +13,7 @@
 //! - `tag`: [`LanguageTag`], its parts, and what it matches.
 //! - `extensions`: [`ExtensionsIterator`], the extensions of a tag one by one.
 //! - `validity`: whether a tag is valid.
+//! - `canonical`: the canonical form of a tag.
 //! - `error`: [`TagJsonError`], why a JSON value is no tag, and [`ValidationError`].
 //! - `part`: a part of a tag's text.
 //!
