@@ -91,6 +91,7 @@ fn answer<'a>(alloc: Global, path: &str, arguments: &'a [Value]) -> Answer<'a> {
         "unic_langid_impl" => calls_identifiers::answer(alloc, call, arguments),
         "language_tags" => calls_tags::answer(alloc, call, arguments),
         "lazy_dfa" => calls_conditions::answer(alloc, call, arguments),
+        "icu_list" => calls_lists::answer(alloc, call, arguments),
         "reading" => reads::answer(alloc, call, arguments),
         "gettext" => calls_catalogs::answer(alloc, call, arguments),
         "localise" => localising::answer(alloc, call, arguments),
