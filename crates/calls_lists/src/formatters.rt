@@ -10,35 +10,41 @@ use calls::answers;
 use calls::answers::Answer;
 use calls::arguments::{Wrong, field, list, text};
 use icu_list::options::{ListFormatterOptions, ListLength};
-use icu_list::{ListFormatter, ListKind, ListTableRow, ListTables};
+use icu_list::provider::ListFormatterPatterns;
+use icu_list::{DataError, ListFormatter, ListKind, ListTableRow, ListTables};
 use icu_locale_core::DataLocale;
 use serde_json::Value;
-use std::alloc::Global;
+use std::alloc::{AllocError, Global};
 use writeable::OwnedText;
 
 /// A call of a formatter, by its name.
 pub fn answer<'a>(alloc: Global, call: &str, arguments: &'a [Value]) -> Answer<'a> {
     match (call, arguments) {
         ("format", [given, items]) => {
-            let patterns = patterns_of(alloc, given)?;
-            let items = texts(alloc, items)?;
-            let formatter = ListFormatter::from_patterns(&patterns);
-            Ok(answers::written(alloc, &formatter.format(&items))?)
+            patterns_of(alloc, given).and_then(|patterns| written(alloc, &patterns, items))
         }
         ("format_to_string", [given, items]) => {
-            let patterns = patterns_of(alloc, given)?;
-            let items = texts(alloc, items)?;
-            let joined = ListFormatter::from_patterns(&patterns).format_to_string(alloc, &items)?;
-            Ok(answers::text(alloc, joined.as_str())?)
+            patterns_of(alloc, given).and_then(|patterns| joined(alloc, &patterns, items))
         }
         ("try_new_and" | "try_new_or" | "try_new_unit", [table, locale, length, items]) => {
             let table = table_of(alloc, table)?;
-            let options = options_of(length)?;
-            let items = texts(alloc, items)?;
-            by_table(alloc, call, &table, locale_of(locale)?, options, &items)
+            by_table(alloc, call, &table, locale, length, items)
         }
         _ => Err(Wrong::Call),
     }
+}
+
+/// What the list of these items writes.
+fn written<'a>(alloc: Global, patterns: &ListFormatterPatterns, items: &'a Value) -> Answer<'a> {
+    let items = texts(alloc, items)?;
+    let formatter = ListFormatter::from_patterns(patterns);
+    Ok(answers::written(alloc, &formatter.format(&items))?)
+}
+
+fn joined<'a>(alloc: Global, patterns: &ListFormatterPatterns, items: &'a Value) -> Answer<'a> {
+    let items = texts(alloc, items)?;
+    let joined = ListFormatter::from_patterns(patterns).format_to_string(alloc, &items)?;
+    Ok(answers::text(alloc, joined.as_str())?)
 }
 
 /// What the formatter of the first row joins of the items.
@@ -46,18 +52,42 @@ fn by_table<'a>(
     alloc: Global,
     call: &str,
     table: &ListTables,
+    locale: &'a Value,
+    length: &'a Value,
+    items: &'a Value,
+) -> Answer<'a> {
+    let options = options_of(length)?;
+    let items = texts(alloc, items)?;
+    match DataLocale::try_from_str(text(locale)?) {
+        Ok(locale) => {
+            let formatter = formatter_of(call, table, locale, options);
+            Ok(written_or_refused(alloc, formatter, &items)?)
+        }
+        Err(_) => Err(not_a_locale(locale)),
+    }
+}
+
+fn formatter_of<'a>(
+    call: &str,
+    table: &'a ListTables,
     locale: DataLocale,
     options: ListFormatterOptions,
-    items: &[OwnedText],
-) -> Answer<'a> {
-    let formatter = match call {
+) -> Result<ListFormatter<'a>, DataError> {
+    match call {
         "try_new_and" => ListFormatter::try_new_and(table, locale, options),
         "try_new_or" => ListFormatter::try_new_or(table, locale, options),
         _ => ListFormatter::try_new_unit(table, locale, options),
-    };
+    }
+}
+
+fn written_or_refused(
+    alloc: Global,
+    formatter: Result<ListFormatter<'_>, DataError>,
+    items: &[OwnedText],
+) -> Result<Value, AllocError> {
     match formatter {
-        Ok(formatter) => Ok(answers::written(alloc, &formatter.format(items))?),
-        Err(error) => Ok(refused(alloc, error)?),
+        Ok(formatter) => answers::written(alloc, &formatter.format(items)),
+        Err(error) => refused(alloc, error),
     }
 }
 
@@ -69,8 +99,8 @@ fn texts<'a>(alloc: Global, given: &'a Value) -> Result<Vec<OwnedText>, Wrong<'a
     Ok(texts)
 }
 
-fn locale_of(given: &Value) -> Result<DataLocale, Wrong<'_>> {
-    DataLocale::try_from_str(text(given)?).map_err(|_| Wrong::Argument(given, "a data locale"))
+fn not_a_locale(given: &Value) -> Wrong<'_> {
+    Wrong::Argument(given, "a data locale")
 }
 
 fn length_of(given: &Value) -> Result<ListLength, Wrong<'_>> {
@@ -101,12 +131,23 @@ fn kind_of(given: &Value) -> Result<ListKind, Wrong<'_>> {
 fn table_of<'a>(alloc: Global, given: &'a Value) -> Result<ListTables, Wrong<'a>> {
     let mut rows = Vec::new(alloc);
     for row in list(given)? {
-        rows.push(ListTableRow {
-            kind: kind_of(field(row, "kind")?)?,
-            locale: locale_of(field(row, "locale")?)?,
-            length: length_of(field(row, "length")?)?,
-            patterns: patterns_of(alloc, field(row, "patterns")?)?,
-        })?;
+        rows.push(row_of(alloc, row)?)?;
     }
     Ok(ListTables { rows })
+}
+
+fn row_of<'a>(alloc: Global, given: &'a Value) -> Result<ListTableRow, Wrong<'a>> {
+    let kind = kind_of(field(given, "kind")?)?;
+    let locale = field(given, "locale")?;
+    let Ok(locale) = DataLocale::try_from_str(text(locale)?) else {
+        return Err(not_a_locale(locale));
+    };
+    let length = length_of(field(given, "length")?)?;
+    let patterns = patterns_of(alloc, field(given, "patterns")?)?;
+    Ok(ListTableRow {
+        kind,
+        locale,
+        length,
+        patterns,
+    })
 }

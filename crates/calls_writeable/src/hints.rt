@@ -44,24 +44,43 @@ fn made<'a>(call: &str, arguments: &'a [Value]) -> Result<LengthHint, Wrong<'a>>
 
 /// What an operator gives, by the name of its method.
 fn combined<'a>(call: &str, left: LengthHint, right: &'a Value) -> Result<LengthHint, Wrong<'a>> {
-    let mut left = left;
     match (call, right) {
-        ("add", Value::Number(_)) => return Ok(left + size(right)?),
-        ("add", _) => return Ok(left + hint_of(right)?),
-        ("mul", _) => return Ok(left * size(right)?),
-        ("bitor", _) => return Ok(left | hint_of(right)?),
-        ("add_assign", Value::Number(_)) => left += size(right)?,
-        ("add_assign", _) => left += hint_of(right)?,
-        ("mul_assign", _) => left *= size(right)?,
-        ("bitor_assign", _) => left |= hint_of(right)?,
-        _ => return Err(Wrong::Call),
+        ("mul" | "mul_assign", _) | ("add" | "add_assign", Value::Number(_)) => {
+            Ok(with_number(call, left, size(right)?))
+        }
+        ("add" | "add_assign" | "bitor" | "bitor_assign", _) => {
+            Ok(with_hint(call, left, hint_of(right)?))
+        }
+        _ => Err(Wrong::Call),
     }
-    Ok(left)
+}
+
+fn with_number(call: &str, mut left: LengthHint, right: usize) -> LengthHint {
+    match call {
+        "add" => return left + right,
+        "mul" => return left * right,
+        "add_assign" => left += right,
+        _ => left *= right,
+    }
+    left
+}
+
+fn with_hint(call: &str, mut left: LengthHint, right: LengthHint) -> LengthHint {
+    match call {
+        "add" => return left + right,
+        "bitor" => return left | right,
+        "add_assign" => left += right,
+        _ => left |= right,
+    }
+    left
 }
 
 fn hint_of(value: &Value) -> Result<LengthHint, Wrong<'_>> {
     match list(value)? {
-        [lower, upper] => Ok(LengthHint(size(lower)?, optional_size(upper)?)),
+        [lower, upper] => {
+            let lower = size(lower)?;
+            optional_size(upper).map(|upper| LengthHint(lower, upper))
+        }
         _ => Err(Wrong::Argument(value, "a hint, as [1, 2] or [1, null],")),
     }
 }

@@ -38,15 +38,31 @@ pub fn piece_of(given: &Value) -> Result<Piece<'_>, Wrong<'_>> {
     }
 }
 
-/// A part that a line can name: a part's names are known when the program is built.
+/// The parts that a line can name: a part's names are known when the program is built.
+const PARTS: [Part; 3] = [
+    Part {
+        category: "foo",
+        value: "word",
+    },
+    Part {
+        category: "foo",
+        value: "bar",
+    },
+    Part {
+        category: "foo2",
+        value: "bar2",
+    },
+];
+
+/// The part of this category and this name.
 pub fn part<'a>(category: &'a Value, name: &'a Value) -> Result<Part, Wrong<'a>> {
-    let (category, value) = match (text(category)?, text(name)?) {
-        ("foo", "word") => ("foo", "word"),
-        ("foo", "bar") => ("foo", "bar"),
-        ("foo2", "bar2") => ("foo2", "bar2"),
-        _ => return Err(Wrong::Argument(name, "foo word, foo bar or foo2 bar2")),
-    };
-    Ok(Part { category, value })
+    let (category, value) = (text(category)?, text(name)?);
+    for part in PARTS {
+        if part.category == category && part.value == value {
+            return Ok(part);
+        }
+    }
+    Err(Wrong::Argument(name, "foo word, foo bar or foo2 bar2"))
 }
 
 /// A sink of parts, and how many of them are open.

@@ -51,7 +51,7 @@ fn two(given: &[Value], from: usize) -> Result<Two<'_>, Wrong<'_>> {
 /// The piece at a place, nothing behind the last one.
 fn piece(given: &[Value], place: usize) -> Result<Text<'_>, Wrong<'_>> {
     match given.get(place) {
-        Some(piece) => Ok(Text(text(piece)?)),
+        Some(piece) => text(piece).map(Text),
         None => Ok(Text("")),
     }
 }
@@ -61,7 +61,8 @@ pub fn replacing(given: &Value) -> Result<(&Value, &str, &str), Wrong<'_>> {
     let [source, needle, replacement] = list(given)? else {
         return Err(Wrong::Argument(given, "a source, a needle and a replacement"));
     };
-    Ok((source, text(needle)?, text(replacement)?))
+    let needle = text(needle)?;
+    text(replacement).map(|replacement| (source, needle, replacement))
 }
 
 /// What `write_replaced` writes.

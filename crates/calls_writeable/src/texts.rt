@@ -18,6 +18,7 @@ use std::alloc::{AllocError, Global};
 use std::borrow::CowStr;
 use std::boxed::BoxedStr;
 use std::rc::{Rc, RcStr};
+use std::str::FromStr;
 use writeable::adapters::{
     Concat, CoreWriteAsPartsWrite, LossyWrap, Replace, TryWriteableInfallibleAsWriteable, WithPart,
     WriteableAsTryWriteableInfallible,
@@ -80,10 +81,26 @@ impl Question<'_> {
         }
     }
 
+    fn asked<'a, W: Writeable>(&self, alloc: Global, value: &W) -> Answer<'a> {
+        Ok(self.ask(alloc, value)?)
+    }
+
+    /// The answer of a value that is made where there is memory.
+    fn of_made<'a, W, E>(&self, alloc: Global, made: Result<W, E>) -> Answer<'a>
+    where
+        W: Writeable + Drop,
+        E: Drop,
+    {
+        match made {
+            Ok(value) => self.asked(alloc, &value),
+            Err(_) => Err(Wrong::NoMemory),
+        }
+    }
+
     /// The answer of the value that an argument makes.
     fn of<'a>(&self, alloc: Global, value: &'a Value) -> Answer<'a> {
-        if value.is_string() {
-            return Ok(self.ask(alloc, &Text(text(value)?))?);
+        if let Value::String(text) = value {
+            return self.asked(alloc, &Text(text.as_str()));
         }
         let (name, inner) = member(value)?;
         match name {
@@ -99,58 +116,82 @@ impl Question<'_> {
         }
     }
 
+    /// The answer of a text, by the name of the type that holds it.
     fn of_text<'a>(&self, alloc: Global, name: &str, value: &'a Value) -> Answer<'a> {
         let inner = text(value)?;
-        let answer = match name {
-            "&String" => self.ask(alloc, &&String::from_str(alloc, inner)?),
-            "String" => self.ask(alloc, &String::from_str(alloc, inner)?),
-            "OwnedText" => self.ask(alloc, &OwnedText::new(alloc, inner)?),
-            "BoxedStr" => self.ask(alloc, &BoxedStr::from_str(alloc, inner)?),
-            "RcStr" => self.ask(alloc, &RcStr::from_str(alloc, inner)?),
-            "CowStr::Borrowed" => self.ask(alloc, &CowStr::Borrowed(inner)),
-            "CowStr::Owned" => self.ask(alloc, &CowStr::Owned(String::from_str(alloc, inner)?)),
-            "Box" => self.ask(alloc, &Box::new(alloc, Text(inner))?),
-            "Rc" => self.ask(alloc, &Rc::new(alloc, Text(inner))?),
-            "Either::Left" => self.ask(alloc, &Either::<Text, u8>::Left(Text(inner))),
-            "Either::Right" => self.ask(alloc, &Either::<Text, u8>::Right(wide(value)?)),
-            "lower" => self.ask(alloc, &lower(alloc, inner)?),
+        match name {
+            "CowStr::Borrowed" => self.asked(alloc, &CowStr::Borrowed(inner)),
+            "Either::Left" => self.asked(alloc, &Either::<Text, u8>::Left(Text(inner))),
+            "Either::Right" => { Ok(self.ask(alloc, &Either::<Text, u8>::Right(wide(value)?))?) }
             "TryWriteableInfallibleAsWriteable" => {
                 let infallible = WriteableAsTryWriteableInfallible(Text(inner));
-                self.ask(alloc, &TryWriteableInfallibleAsWriteable(infallible))
+                self.asked(alloc, &TryWriteableInfallibleAsWriteable(infallible))
             }
-            _ => return Err(Wrong::Argument(value, "the text of a known type")),
-        };
-        Ok(answer?)
+            _ => match self.of_copy(alloc, name, inner) {
+                Err(Wrong::Call) => Err(Wrong::Argument(value, "the text of a known type")),
+                answer => answer,
+            },
+        }
     }
 
+    /// The answer of a copy of a text.
+    fn of_copy<'a>(&self, alloc: Global, name: &str, text: &str) -> Answer<'a> {
+        match name {
+            "String" => self.of_made(alloc, String::from_str(alloc, text)),
+            "&String" => self.asked(alloc, &&String::from_str(alloc, text)?),
+            "OwnedText" => self.of_made(alloc, OwnedText::new(alloc, text)),
+            "CowStr::Owned" => {
+                Ok(self.ask(alloc, &CowStr::Owned(String::from_str(alloc, text)?))?)
+            }
+            "lower" => Ok(self.ask(alloc, &lower(alloc, text)?)?),
+            _ => self.of_pointer(alloc, name, text),
+        }
+    }
+
+    /// The answer of a text behind a pointer.
+    fn of_pointer<'a>(&self, alloc: Global, name: &str, text: &str) -> Answer<'a> {
+        match name {
+            "BoxedStr" => self.of_made(alloc, BoxedStr::from_str(alloc, text)),
+            "RcStr" => self.of_made(alloc, RcStr::from_str(alloc, text)),
+            "Box" => self.of_made(alloc, Box::new(alloc, Text(text))),
+            "Rc" => self.of_made(alloc, Rc::new(alloc, Text(text))),
+            _ => Err(Wrong::Call),
+        }
+    }
+
+    /// The answer of a number, by the name of its type.
     fn of_number<'a>(&self, alloc: Global, name: &str, value: &'a Value) -> Answer<'a> {
-        let answer = match name {
-            "u8" => self.ask(alloc, &wide::<u8>(value)?),
-            "u16" => self.ask(alloc, &wide::<u16>(value)?),
-            "u32" => self.ask(alloc, &wide::<u32>(value)?),
-            "u64" => self.ask(alloc, &wide::<u64>(value)?),
-            "u128" => self.ask(alloc, &wide::<u128>(value)?),
-            "usize" => self.ask(alloc, &wide::<usize>(value)?),
-            "i8" => self.ask(alloc, &wide::<i8>(value)?),
-            "i16" => self.ask(alloc, &wide::<i16>(value)?),
-            "i32" => self.ask(alloc, &wide::<i32>(value)?),
-            "i64" => self.ask(alloc, &wide::<i64>(value)?),
-            "i128" => self.ask(alloc, &wide::<i128>(value)?),
-            "isize" => self.ask(alloc, &wide::<isize>(value)?),
-            _ => return Err(Wrong::Call),
-        };
-        Ok(answer?)
+        match name {
+            "u8" => self.of_wide::<u8>(alloc, value),
+            "u16" => self.of_wide::<u16>(alloc, value),
+            "u32" => self.of_wide::<u32>(alloc, value),
+            "u64" => self.of_wide::<u64>(alloc, value),
+            "u128" => self.of_wide::<u128>(alloc, value),
+            "usize" => self.of_wide::<usize>(alloc, value),
+            "i8" => self.of_wide::<i8>(alloc, value),
+            "i16" => self.of_wide::<i16>(alloc, value),
+            "i32" => self.of_wide::<i32>(alloc, value),
+            "i64" => self.of_wide::<i64>(alloc, value),
+            "i128" => self.of_wide::<i128>(alloc, value),
+            "isize" => self.of_wide::<isize>(alloc, value),
+            _ => Err(Wrong::Call),
+        }
     }
 
-    /// One to four items, one behind the other.
+    fn of_wide<'a, T>(&self, alloc: Global, value: &'a Value) -> Answer<'a>
+    where
+        T: FromStr + Writeable + Drop,
+        T::Err: Drop,
+    {
+        Ok(self.ask(alloc, &wide::<T>(value)?)?)
+    }
+
+    /// Two to four items, one behind the other.
     fn of_items<'a>(&self, alloc: Global, value: &'a Value) -> Answer<'a> {
         let answer = match list(value)? {
-            [a, b] => self.ask(alloc, &Concat(item(a)?, item(b)?)),
+            [a, b] => self.ask(alloc, &two(a, b)?),
             [a, b, c] => self.ask(alloc, &concat_writeable!(item(a)?, item(b)?, item(c)?)),
-            [a, b, c, d] => {
-                let front = Concat(item(a)?, item(b)?);
-                self.ask(alloc, &Concat(front, Concat(item(c)?, item(d)?)))
-            }
+            [a, b, c, d] => self.ask(alloc, &Concat(two(a, b)?, two(c, d)?)),
             _ => return Err(Wrong::Argument(value, "two to four items")),
         };
         Ok(answer?)
@@ -176,6 +217,11 @@ impl Question<'_> {
         };
         Ok(self.ask(alloc, &replace)?)
     }
+}
+
+fn two<'a>(first: &'a Value, second: &'a Value) -> Result<Concat<Item<'a>, Item<'a>>, Wrong<'a>> {
+    let first = item(first)?;
+    item(second).map(|second| Concat(first, second))
 }
 
 fn string(alloc: Global, written: CowStr<'_>) -> Result<Value, AllocError> {
@@ -244,10 +290,13 @@ fn item(value: &Value) -> Result<Item<'_>, Wrong<'_>> {
 
 fn text_in_part(value: &Value) -> Result<WithPart<Text<'_>>, Wrong<'_>> {
     match list(value)? {
-        [category, name, inner] => Ok(WithPart {
-            part: part(category, name)?,
-            writeable: Text(text(inner)?),
-        }),
+        [category, name, inner] => {
+            let part = part(category, name)?;
+            text(inner).map(|text| WithPart {
+                part,
+                writeable: Text(text),
+            })
+        }
         _ => Err(Wrong::Argument(value, "a part's category and value, and a text")),
     }
 }

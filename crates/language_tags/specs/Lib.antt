@@ -12,3 +12,5 @@ pub mod Canon
 pub mod CanonText
 pub mod Equality
 pub mod EqualityLaws
+pub mod Words
+pub mod Laws

@@ -1,0 +1,9 @@
+pub mod OneFront
+pub mod OneAnswer
+pub mod LeastVariant
+pub mod AnyCase
+pub mod TwoExtlangs
+pub mod EmptyRegistry
+pub mod PrintedText
+pub mod PrintedLocale
+pub mod Answering
