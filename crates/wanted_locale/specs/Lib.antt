@@ -1,0 +1,4 @@
+pub mod Laws
+pub mod Normalised
+pub mod Wanted
+pub mod Words
