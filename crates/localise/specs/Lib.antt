@@ -1,0 +1,5 @@
+pub mod Bundles
+pub mod Chosen
+pub mod Kept
+pub mod Lists
+pub mod Meaning
