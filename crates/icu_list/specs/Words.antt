@@ -1,14 +1,14 @@
--- The errors in words. Of those that no rule names nothing is said.
-use Rattle.std.specs.Prelude.{◌≡◌, ℕ, List, codes}
-use Rattle.lazy_dfa.specs.Words.{words_of}
+-- The errors in words.
+use Rattle.std.specs.Prelude.{ℕ, List, codes}
+use Rattle.lazy_dfa.specs.Words as condition
 use Rattle.icu_list.specs.declared.error.DataError.{DataError}
 use Rattle.icu_list.specs.declared.error.DataError.TheVariants.{InvalidPattern, CannotStore, Condition, MissingLocale, NotJsonForm, NoMemory}
 
--- the text of an error
-abbrev pub IsText : DataError → List ℕ → Type 0
-IsText InvalidPattern text = text ≡ codes "Invalid list pattern"
-IsText CannotStore text = text ≡ codes "Found valid pattern that cannot be stored in ListFormatterPatterns"
-IsText (Condition error) text = text ≡ words_of error
-IsText MissingLocale text = Unit {0}
-IsText NotJsonForm text = Unit {0}
-IsText NoMemory text = Unit {0}
+-- what `DataError::text` says
+abbrev pub words_of : DataError → List ℕ
+words_of InvalidPattern = codes "Invalid list pattern"
+words_of CannotStore = codes "Found valid pattern that cannot be stored in ListFormatterPatterns"
+words_of (Condition error) = condition.words_of error
+words_of MissingLocale = codes "no such row"
+words_of NotJsonForm = codes "not of the JSON form"
+words_of NoMemory = codes "out of memory"

@@ -1,7 +1,7 @@
 //! Why patterns, tables or JSON values were refused.
 
 ghost use Rattle.std.specs.Prelude.{◌≡◌};
-ghost use Rattle.icu_list.specs.Words.{IsText};
+ghost use Rattle.icu_list.specs.Words.{words_of};
 
 use lazy_dfa::ConditionError;
 use std::alloc::AllocError;
@@ -33,7 +33,7 @@ pub enum DataError {
 impl DataError {
     /// A few words on the error.
     pub fn text(&self) -> &'static str
-        ensures { IsText self.now result.now }
+        ensures { result.now ≡ words_of self.now }
     {
         match self {
             DataError::InvalidPattern => "Invalid list pattern",

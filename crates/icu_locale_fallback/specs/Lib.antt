@@ -9,3 +9,4 @@ pub mod Tables
 pub mod Triple
 pub mod Views
 pub mod Walk
+pub mod Words

@@ -6,6 +6,7 @@ ghost use Rattle.writeable_core.specs.declared.text.TextRow.{TextRow};
 ghost use Rattle.icu_locale_fallback.specs.Cells.{PrintsAs, PrintsNone};
 ghost use Rattle.icu_locale_fallback.specs.KeyLaws.{pairs_tie, texts_tie, triples_tie};
 ghost use Rattle.icu_locale_fallback.specs.Rows.{ChildKey, LanguageKey, LanguageRegionKey, LanguageScriptKey, LikelyValue, ParentValue, RegionValue, ScriptValue};
+ghost use Rattle.icu_locale_fallback.specs.Words.{words_of};
 
 use crate::provider::Likely;
 use crate::triple::Triple;
@@ -45,7 +46,9 @@ pub enum TableError {
 
 impl TableError {
     /// The error in words.
-    pub fn text(&self) -> &'static str {
+    pub fn text(&self) -> &'static str
+        ensures { result.now ≡ words_of self.now }
+    {
         match self {
             TableError::DuplicateKey(..) => "duplicate key",
             TableError::BadKey(..) => "bad key",

@@ -12,3 +12,4 @@ pub mod Canon
 pub mod CanonText
 pub mod Equality
 pub mod EqualityLaws
+pub mod Words

@@ -1,3 +1,6 @@
+ghost use Rattle.std.specs.Prelude.{◌≡◌};
+ghost use Rattle.language_tags.specs.Words.{words_of};
+
 use language_tags_grammar::ParseError;
 use thiserror::Error;
 
@@ -66,7 +69,9 @@ pub enum ValidationError {
 
 impl ValidationError {
     /// The error in words.
-    pub fn text(&self) -> &'static str {
+    pub fn text(&self) -> &'static str
+        ensures { result.now ≡ words_of self.now }
+    {
         match self {
             ValidationError::DuplicateVariant => "a variant subtag may not be repeated",
             ValidationError::DuplicateExtension => "an extension's singleton may not be repeated",

@@ -9,3 +9,4 @@ pub mod Scan
 pub mod Kept
 pub mod Case
 pub mod Lemmas
+pub mod Words

@@ -1,3 +1,6 @@
+ghost use Rattle.std.specs.Prelude.{◌≡◌};
+ghost use Rattle.language_tags_grammar.specs.Words.{words_of};
+
 use thiserror::Error;
 
 /// Why a text is no language tag.
@@ -34,7 +37,9 @@ pub enum ParseError {
 
 impl ParseError {
     /// The error in words.
-    pub fn text(&self) -> &'static str {
+    pub fn text(&self) -> &'static str
+        ensures { result.now ≡ words_of self.now }
+    {
         match self {
             ParseError::EmptyExtension => "if an extension subtag is present, it must not be empty",
             ParseError::EmptyPrivateUse => "if the `x` subtag is present, it must not be empty",

@@ -3,3 +3,4 @@ pub mod Subtags
 pub mod Kinds
 pub mod Rows
 pub mod Faults
+pub mod Words

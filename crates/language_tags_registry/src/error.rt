@@ -1,3 +1,6 @@
+ghost use Rattle.std.specs.Prelude.{◌≡◌};
+ghost use Rattle.language_tags_registry.specs.Words.{words_of};
+
 use thiserror::Error;
 
 /// Why rows make no registry: what is wrong with the first faulty row, by table and row, both
@@ -20,7 +23,9 @@ pub enum RegistryError {
 
 impl RegistryError {
     /// The error in words.
-    pub fn text(&self) -> &'static str {
+    pub fn text(&self) -> &'static str
+        ensures { result.now ≡ words_of self.now }
+    {
         match self {
             RegistryError::DuplicateKey(..) => "duplicate key",
             RegistryError::BadKey(..) => "bad key",

@@ -18,3 +18,4 @@ pub mod Printing
 pub mod Reading
 pub mod Subtags
 pub mod Taking
+pub mod Words

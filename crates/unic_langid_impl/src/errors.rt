@@ -1,5 +1,6 @@
 ghost use Rattle.std.specs.Prelude.{◌≡◌};
 ghost use Rattle.unic_langid_impl.specs.Outer.{outer_of};
+ghost use Rattle.unic_langid_impl.specs.Words.{words_of};
 
 use crate::ParserError;
 use thiserror::Error;
@@ -20,7 +21,9 @@ pub enum LanguageIdentifierError {
 
 impl LanguageIdentifierError {
     /// The error in words.
-    pub fn text(&self) -> &'static str {
+    pub fn text(&self) -> &'static str
+        ensures { result.now ≡ words_of self.now }
+    {
         match self {
             LanguageIdentifierError::Unknown => "Unknown error",
             LanguageIdentifierError::ParserError(ParserError::InvalidLanguage) => {
