@@ -1,4 +1,11 @@
-pub mod Code
-pub mod Contents
-pub mod Document
+pub mod Answers
+pub mod Classes
+pub mod Commands
+pub mod FaultLines
+pub mod Generating
+pub mod Rendering
+pub mod Laws
+pub mod Requests
 pub mod Run
+pub mod Tables
+pub mod Walking

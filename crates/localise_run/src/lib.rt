@@ -1,7 +1,8 @@
 //! The program's runs: a document in, one localised line per request out.
 //!
 //! [`run`] is the call that the program makes: it reads the document from a source and appends the
-//! lines to an output. Its answer, a [`Status`], is the program's exit status too.
+//! lines to an output. Its answer, a [`Status`], is the program's exit status too, and all but `Done`
+//! are told on a second output in one line.
 //!
 //! ```
 //! let mut source = SliceSource::new(document);
@@ -12,18 +13,28 @@
 //! assert_eq!(out.as_str(), "Salut\n");
 //! ```
 //!
-//! - `command`: [`run`], from words and a source to a status.
-//! - `document`: documents, read from JSON (RFC 8259).
-//! - `members`: the members of a JSON object, taken one by one.
-//! - `lines`: the lines of a document's requests.
+//! - `running`: [`run`], from words and a source to a status.
+//! - `command`: [`Command`], what words ask for.
+//! - `prepare`: what all commands do first: the document, its tables, its bundles.
+//! - `render`, `walk`, `generate`: what each command makes of a document's requests.
 //! - `status`: [`Status`], how a run ended, and its code.
+//! - `fault_line`: the line that tells of a status.
+//! - `laws`: an input has one answer.
 #![tactic(auto)]
 
 mod command;
-mod document;
-mod lines;
-mod members;
+mod fault_line;
+mod generate;
+pub mod laws;
+mod prepare;
+mod render;
+mod running;
 mod status;
+mod tags;
+mod walk;
 
-pub use command::run;
-pub use status::Status;
+pub use command::Command;
+pub use fault_line::write_fault_line;
+pub use localise_document::{Field, Section, ShapePlace};
+pub use running::run;
+pub use status::{RequestCause, Status, TableCause};

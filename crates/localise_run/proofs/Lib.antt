@@ -1,5 +1,0 @@
-pub mod Objects
-pub mod Outcomes
-pub mod Output
-pub mod Plainness
-pub mod Values

@@ -1,0 +1,58 @@
+-- `generate`: requests made from those of a document, and three numbers of their lines.
+use Rattle.std.specs.Fmt.{decimal}
+use Rattle.std.specs.Prelude.{◌≡◌, ◌≢◌, ℕ, zero, suc, ◌+◌, ◌-◌, ◌%◌, ◌^◌, min, List, [], ◌∷◌, ◌++◌, codes, length, get_or, repeat}
+use Rattle.icu_list.specs.Patterns.{Patterns}
+use Rattle.icu_locale_core.specs.Locale.{Locale}
+use Rattle.localise.specs.Chosen.{Answer, Answers}
+use Rattle.localise.specs.Meaning.{Meaning}
+use Rattle.localise_run.specs.Rendering.{AreRendered, Wants, line_of}
+use Rattle.localise_run.specs.declared.status.Status.{Status}
+use Rattle.localise_run.specs.declared.status.Status.TheVariants.{Done}
+use Rattle.localise_texts.specs.declared.request.Request.{Request}
+use Rattle.wanted_locale.specs.declared.tables.Tables.{Tables}
+use Rattle.writeable_core.specs.Hint.{byte_length}
+
+-- a request with the count and the items of made request i
+abbrev pub made_from : ℕ → Request → Request
+made_from i q = record q { count = i % 3; items = repeat (codes "x") (i % 4) }
+
+-- n made requests, the first of which has the number i: made request i is the document's of number i mod r
+abbrev pub made : List Request → ℕ → ℕ → List Request
+made requests i zero = []
+made [] i (suc n) = []
+made (q ∷ qs) i (suc n) = made_from i (get_or (q ∷ qs) (i % length (q ∷ qs)) q) ∷ made (q ∷ qs) (suc i) n
+
+-- the greatest number of 64 bits stands for every greater one
+abbrev pub at_most_64_bits : ℕ → ℕ
+at_most_64_bits n = min n (2 ^ 64 - 1)
+
+-- a word, a space and a number, as a line
+abbrev pub number_line : List ℕ → ℕ → List ℕ
+number_line word n = line_of (word ++ (32 ∷ decimal n))
+
+-- the three lines of so many requests, bytes and visited locales
+abbrev pub three_lines : ℕ → ℕ → ℕ → List ℕ
+three_lines requests bytes visited =
+    number_line (codes "requests") requests
+    ++ (number_line (codes "bytes") (at_most_64_bits bytes) ++ number_line (codes "visited") visited)
+
+module _ (T : Tables) (bundles : List Meaning) (root : Patterns) where
+  -- how many locales the walks of requests visit in all
+  pub data AreVisited : List Request → ℕ → Type 0 where
+    none_left : AreVisited [] 0
+    visited : {q : Request} {qs : List Request} {l : Locale} {a : Answer} {n : ℕ} → Wants T q l
+        → Answers T.fallbacker bundles root l q a → AreVisited qs n → AreVisited (q ∷ qs) (a.visited + n)
+
+  -- the numbers of requests each of which has a line
+  pub record AreNumbers (requests : List Request) (text : List ℕ) : Type 0 where
+    pub lines : List ℕ
+    pub rendered : AreRendered T bundles root requests Done lines
+    pub visited : ℕ
+    pub are_visited : AreVisited requests visited
+    pub text_is : text ≡ three_lines (length requests) (byte_length lines) visited
+
+  -- the status of made requests: that of rendering them; and where each has a line, their numbers as text
+  pub data AreGenerated (requests : List Request) (status : Status) (text : List ℕ) : Type 0 where
+    all : AreNumbers requests text → status ≡ Done → AreGenerated requests status text
+    refused : {lines : List ℕ} → AreRendered T bundles root requests status lines → status ≢ Done → text ≡ []
+        → AreGenerated requests status text

@@ -1,0 +1,61 @@
+//! What all commands do first: a document's tables and its bundles.
+
+use crate::{Status, TableCause};
+use icu_locale_fallback::{FallbackRows, LocaleFallbacker, TableError};
+use language_tags::{Registry, RegistryError, RegistryRows};
+use localise::{BundleCause, RenderError};
+use localise_document::DocumentError;
+use std::alloc::Global;
+use wanted_locale::Tables;
+
+/// The tables of rows. The status is that of the first faulty row, or of want of memory.
+pub(crate) fn tables_of(
+    alloc: Global,
+    registry: &RegistryRows,
+    fallback: &FallbackRows,
+) -> Result<Tables, Status>
+{
+    let registry = Registry::try_new(alloc, registry).map_err(of_registry)?;
+    let fallbacker = LocaleFallbacker::try_new(alloc, fallback).map_err(of_fallback)?;
+    Ok(Tables {
+        registry,
+        fallbacker,
+    })
+}
+
+fn of_registry(error: RegistryError) -> Status {
+    match error {
+        RegistryError::NoMemory => Status::NoMemory,
+        error => Status::Table(TableCause::Registry(error)),
+    }
+}
+
+fn of_fallback(error: TableError) -> Status {
+    match error {
+        TableError::NoMemory => Status::NoMemory,
+        error => Status::Table(TableCause::Fallback(error)),
+    }
+}
+
+/// The status of a document that isn't read.
+pub(crate) fn of_document(error: DocumentError) -> Status {
+    match error {
+        DocumentError::NotJson => Status::NotJson,
+        DocumentError::Shape(place) => Status::Shape(place),
+        DocumentError::NoMemory => Status::NoMemory,
+    }
+}
+
+/// The status of bundles or a root that are refused. The last three aren't answered by a
+/// `Localiser`'s constructors.
+pub(crate) fn of_refusal(error: RenderError) -> Status {
+    match error {
+        RenderError::Bundle(i, cause) => Status::Bundle(i, cause),
+        RenderError::DuplicateLocale(i) => Status::DuplicateLocale(i),
+        RenderError::Root(fault) => Status::Root(fault),
+        RenderError::Tag(_)
+        | RenderError::ChainLoops
+        | RenderError::Sink
+        | RenderError::NoMemory => Status::NoMemory,
+    }
+}

@@ -1,0 +1,134 @@
+ghost use Rattle.std.specs.Prelude.{◌≡◌, ◌≢◌, ◌≤◌, ◌↔◌, ◌⊎◌, ℕ, List, IfSome, length};
+ghost use Rattle.localise_document.specs.Contents.{Contents};
+ghost use Rattle.localise_run.specs.Answers.{IsAnswer, Says};
+ghost use Rattle.localise_run.specs.Classes.{class_of};
+ghost use Rattle.localise_run.specs.Commands.{AreNoCommand, IsCommand};
+ghost use Rattle.localise_run.specs.FaultLines.{IsReported, fault_line};
+ghost use Rattle.localise_run.specs.Run.{AreRead, Appended, ComesAtEnd, IsFailure, IsKept, Runs};
+ghost use Rattle.reading.specs.Reading.{IsReadToEnd};
+ghost use Rattle.writeable_core.specs.Sink.{Rose};
+
+use crate::generate::write_numbers;
+use crate::prepare::{of_document, of_refusal, tables_of};
+use crate::render::write_lines;
+use crate::walk::write_walks;
+use crate::{Command, Status, write_fault_line};
+use localise::Localiser;
+use localise_document::{Document, read_document};
+use reading::{ReadError, read_all};
+use std::alloc::Global;
+use writeable_core::{Sink, Source};
+
+/// Runs the command that the words are over a document that the source gives, appends its lines to the
+/// output, and tells of each answer but `Done` on the second output.
+///
+/// `words` leaves out the program's name.
+pub fn run<S: Source, O: Sink, E: Sink>(
+    alloc: Global,
+    words: &[String],
+    source: &mut S,
+    out: &mut O,
+    err: &mut E,
+) -> Status
+    // `render`, Done: the source was read to its end, the bytes are one document, and exactly the
+    // document's lines were appended.
+    ensures headline { result ≡ Status.Done → (command : Command) → IsCommand words.now command
+        → (bytes : List ℕ) × AreRead (S.left source.old) bytes
+        × ((lines : List ℕ) × Says command bytes Status.Done lines
+        × Appended O.took O.held out.old lines out.new) }
+    ensures read_to_end { ComesAtEnd result
+        → IsReadToEnd S.left S.ended S.faults source.old source.new }
+
+    // Which answer comes, and what was appended under it.
+    ensures bad_words { (result ≡ Status.BadWords) ↔ AreNoCommand words.now }
+    ensures runs { (command : Command) → IsCommand words.now command
+        → Runs O.took command (S.left source.old) (S.faults source.old) (S.faults source.new)
+        (record {
+          old = out.old;
+          new = out.new;
+          faults_before = O.faults out.old;
+          faults_now = O.faults out.new;
+        }) (class_of result) result }
+    ensures no_fault { result ≡ Status.TooLong → S.faults source.new ≡ S.faults source.old }
+    ensures unread { result ≡ Status.BadWords → (source.new ≡ source.old) × (out.new ≡ out.old) }
+
+    // The answer that the bytes have comes, unless a source, an output or memory fails.
+    ensures exact { (command : Command) → IsCommand words.now command
+        → IfSome (S.left source.old) (λ bytes. (answer : Status) (text : List ℕ)
+        → Says command bytes answer text → (result ≡ answer) ⊎ IsFailure result) }
+    ensures complete { (command : Command) → IsCommand words.now command
+        → IfSome (S.left source.old) (λ bytes. (lines : List ℕ) → Says command bytes Status.Done lines
+        → (Rose (S.faults source.old) (S.faults source.new) → ⊥)
+        → (Rose (O.faults out.old) (O.faults out.new) → ⊥)
+        → (result ≡ Status.Done) ⊎ (result ≡ Status.NoMemory)) }
+
+    // What is told on the second output.
+    ensures silent { result ≡ Status.Done → err.new ≡ err.old }
+    ensures told { result ≢ Status.Done
+        → IsReported E.took E.faults E.takes_memory err.old (fault_line result) err.new }
+{
+    let status = match Command::of_words(words) {
+        Some(command) => run_command(alloc, command, source, out),
+        None => Status::BadWords,
+    };
+    if status != Status::Done {
+        let _ = write_fault_line(&status, err);
+    }
+    status
+}
+
+/// Reads a source to its end, and runs a command over its bytes.
+fn run_command<S: Source, O: Sink>(
+    alloc: Global,
+    command: Command,
+    source: &mut S,
+    out: &mut O,
+) -> Status
+{
+    match read_all(alloc, source) {
+        Ok(bytes) => run_over(alloc, command, bytes, out),
+        Err(ReadError::Fault) => Status::ReadFault,
+        Err(ReadError::TooLong) => Status::TooLong,
+        Err(ReadError::NoMemory) => Status::NoMemory,
+    }
+}
+
+/// Runs a command over the bytes of a document.
+fn run_over<O: Sink>(alloc: Global, command: Command, bytes: Vec<u8>, out: &mut O) -> Status {
+    match read_document(alloc, bytes) {
+        Ok(document) => run_document(alloc, command, document, out),
+        Err(error) => of_document(error),
+    }
+}
+
+/// Runs a command over a document.
+fn run_document<O: Sink>(
+    alloc: Global,
+    command: Command,
+    document: Document,
+    out: &mut O,
+) -> Status
+{
+    let Document {
+        registry,
+        fallback,
+        bundles,
+        root,
+        requests,
+    } = document;
+    let tables = match tables_of(alloc, &registry, &fallback) {
+        Ok(tables) => tables,
+        Err(status) => return status,
+    };
+    let localiser = match Localiser::from_bundles(alloc, &tables, bundles, &root) {
+        Ok(localiser) => localiser,
+        Err(error) => return of_refusal(error),
+    };
+    match command {
+        Command::Render => write_lines(alloc, &tables, &localiser, &requests, out),
+        Command::Walk => write_walks(alloc, &tables, &requests, out),
+        Command::Generate(count) => {
+            write_numbers(alloc, &tables, &localiser, requests, count, out)
+        }
+    }
+}
