@@ -2,3 +2,4 @@ pub mod Cases
 pub mod NeverBoth
 pub mod TextLaws
 pub mod Neither
+mod OneFault

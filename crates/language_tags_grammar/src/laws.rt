@@ -5,10 +5,12 @@ ghost use Rattle.language_tags_grammar.specs.TagFault.{IsFaultOf};
 ghost use Rattle.language_tags_grammar.specs.TagOf.{IsTagOf};
 ghost use Rattle.language_tags_grammar.specs.declared.error.ParseError.{ParseError as Fault};
 
-/// A text has one tag at most; a text has a tag or a fault, never both and never neither; and the
-/// text of a tag that was parsed has that tag.
+/// A text has one tag at most, and one fault at most; it has a tag or a fault, never both and never
+/// neither; and the text of a tag that was parsed has that tag.
 pub fn texts_and_tags()
     ensures one { (text : List ℕ) (g h : Tag) → IsTagOf text g → IsTagOf text h → g ≡ h }
+    ensures one_fault { (text : List ℕ) (a b : Fault) → IsFaultOf text a → IsFaultOf text b
+        → a ≡ b }
     ensures never_neither { (text : List ℕ)
         → ((g : Tag) × IsTagOf text g) ⊎ ((fault : Fault) × IsFaultOf text fault) }
     ensures never_both { (text : List ℕ) (g : Tag) (fault : Fault) → IsTagOf text g
