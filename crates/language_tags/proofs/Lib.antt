@@ -7,3 +7,4 @@ mod CanonLaws
 mod WrittenLaws
 mod ItemLaws
 mod BuiltLaws
+mod Answering

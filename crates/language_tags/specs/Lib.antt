@@ -13,3 +13,4 @@ pub mod CanonText
 pub mod Equality
 pub mod EqualityLaws
 pub mod Words
+pub mod Laws

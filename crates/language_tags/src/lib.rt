@@ -14,6 +14,7 @@
 //! - `extensions`: [`ExtensionsIterator`], the extensions of a tag one by one.
 //! - `validity`: whether a tag is valid.
 //! - `canonical`: the canonical form of a tag.
+//! - `laws`: a law of canonical forms, for contracts above.
 //! - `error`: [`TagJsonError`], why a JSON value is no tag, and [`ValidationError`].
 //! - `part`: a part of a tag's text.
 //!
@@ -24,6 +25,7 @@
 mod canonical;
 mod error;
 mod extensions;
+pub mod laws;
 mod part;
 mod tag;
 mod validity;
