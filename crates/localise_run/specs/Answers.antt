@@ -8,10 +8,10 @@ use Rattle.localise.specs.declared.error.RenderError.TheVariants as refusals
 use Rattle.localise_document.specs.Contents.{Contents}
 use Rattle.localise_document.specs.Document.{IsDocument, IsMisshapen, json_of}
 use Rattle.localise_document.specs.declared.place.ShapePlace.{ShapePlace}
-use Rattle.localise_run.specs.Generating.{AreGenerated, made}
-use Rattle.localise_run.specs.Rendering.{AreRendered}
+use Rattle.localise_run.specs.Generating.{AreGenerated, AreNumbers, made}
+use Rattle.localise_run.specs.Rendering.{AreRendered, BeginRendered}
 use Rattle.localise_run.specs.Tables.{HasTables, IsTableFault}
-use Rattle.localise_run.specs.Walking.{AreWalked}
+use Rattle.localise_run.specs.Walking.{AreWalked, BeginWalked}
 use Rattle.localise_run.specs.declared.command.Command.{Command}
 use Rattle.localise_run.specs.declared.command.Command.TheVariants.{Render, Walk, Generate}
 use Rattle.localise_run.specs.declared.status.Status.{Status}
@@ -37,6 +37,12 @@ IsMade Render T bundles root requests status text = AreRendered T bundles root r
 IsMade Walk T bundles root requests status text = AreWalked T requests status text
 IsMade (Generate n) T bundles root requests status text = AreGenerated T bundles root (made requests 0 n) status text
 
+-- what begins the text that a command makes: the lines of some requests in front, or the three lines
+abbrev pub Begins : Command → Tables → List Meaning → Patterns → List Request → List ℕ → Type 0
+Begins Render T bundles root requests text = BeginRendered T bundles root requests text
+Begins Walk T bundles root requests text = BeginWalked T requests text
+Begins (Generate n) T bundles root requests text = AreNumbers T bundles root (made requests 0 n) text
+
 -- the answer of a document: the first of a faulty table, a faulty bundle, a faulty root, and what its requests are answered
 pub data IsAnswer (command : Command) (d : Contents) (answer : Status) (text : List ℕ) : Type 0 where
   in_tables : {cause : TableCause} → IsTableFault d cause → answer ≡ status.Table cause → text ≡ []
@@ -56,3 +62,15 @@ pub data Says (command : Command) (bytes : List ℕ) (answer : Status) (text : L
       → text ≡ [] → Says command bytes answer text
   document : {d : Contents} → length bytes ≤ most_bytes → IsDocument bytes d → IsAnswer command d answer text
       → Says command bytes answer text
+
+-- a text that begins what is appended of bytes: they are a document whose tables, bundles and root are accepted
+pub record SaysFirst (command : Command) (bytes text : List ℕ) : Type 0 where
+  pub within : length bytes ≤ most_bytes
+  pub d : Contents
+  pub document : IsDocument bytes d
+  pub T : Tables
+  pub tables : HasTables d T
+  pub bundles : List Meaning
+  pub root : Patterns
+  pub accepted : AreAccepted T d.bundles d.root bundles root
+  pub begins : Begins command T bundles root d.requests text

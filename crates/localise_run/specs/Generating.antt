@@ -37,11 +37,18 @@ three_lines requests bytes visited =
     ++ (number_line (codes "bytes") (at_most_64_bits bytes) ++ number_line (codes "visited") visited)
 
 module _ (T : Tables) (bundles : List Meaning) (root : Patterns) where
-  -- how many locales the walks of requests visit in all
-  pub data AreVisited : List Request → ℕ → Type 0 where
-    none_left : AreVisited [] 0
-    visited : {q : Request} {qs : List Request} {l : Locale} {a : Answer} {n : ℕ} → Wants T q l
-        → Answers T.fallbacker bundles root l q a → AreVisited qs n → AreVisited (q ∷ qs) (a.visited + n)
+  -- how many locales the walk of a request visits
+  pub record Visits (q : Request) (count : ℕ) : Type 0 where
+    pub locale : Locale
+    pub wants : Wants T q locale
+    pub answer : Answer
+    pub answers : Answers T.fallbacker bundles root locale q answer
+    pub count_is : count ≡ answer.visited
+
+  -- and those of requests in all
+  abbrev pub AreVisited : List Request → ℕ → Type 0
+  AreVisited [] total = total ≡ 0
+  AreVisited (q ∷ qs) total = (count : ℕ) × (rest : ℕ) × Visits q count × AreVisited qs rest × (total ≡ count + rest)
 
   -- the numbers of requests each of which has a line
   pub record AreNumbers (requests : List Request) (text : List ℕ) : Type 0 where

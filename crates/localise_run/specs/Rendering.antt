@@ -4,7 +4,7 @@ use Rattle.icu_list.specs.Patterns.{Patterns}
 use Rattle.icu_locale_core.specs.Locale.{Locale}
 use Rattle.localise.specs.Chosen.{ComesRound, IsLocalised}
 use Rattle.localise.specs.Meaning.{Meaning}
-use Rattle.localise_run.specs.Requests.{AreAnswered}
+use Rattle.localise_run.specs.Requests.{AreAnswered, BeginLines}
 use Rattle.localise_run.specs.declared.status.RequestCause.{RequestCause}
 use Rattle.localise_run.specs.declared.status.RequestCause.TheVariants.{Tag, ChainLoops}
 use Rattle.localise_run.specs.declared.status.Status.{Status}
@@ -40,4 +40,8 @@ module _ (T : Tables) (bundles : List Meaning) (root : Patterns) where
 
   -- the status and the lines of all requests
   abbrev pub AreRendered : List Request → Status → List ℕ → Type 0
-  AreRendered requests status lines = AreAnswered IsLine IsLineFault 0 requests status lines
+  AreRendered requests status lines = AreAnswered IsLine IsLineFault requests status lines
+
+  -- the lines of some requests in front
+  abbrev pub BeginRendered : List Request → List ℕ → Type 0
+  BeginRendered requests lines = BeginLines IsLine IsLineFault requests lines

@@ -1,5 +1,5 @@
 -- What requests are answered: a line each, up to the first that is refused.
-use Rattle.std.specs.Prelude.{ℕ, suc, List, [], ◌∷◌, ◌++◌}
+use Rattle.std.specs.Prelude.{◌≡◌, ℕ, List, [], ◌∷◌, ◌++◌, Some, slice_get, take}
 use Rattle.localise_run.specs.declared.status.RequestCause.{RequestCause}
 use Rattle.localise_run.specs.declared.status.Status.{Status}
 use Rattle.localise_run.specs.declared.status.Status.TheVariants.{Done, Request as Refused}
@@ -7,10 +7,26 @@ use Rattle.localise_texts.specs.declared.request.Request.{Request}
 
 -- `Line` says which line a request gets, `Fault` why it gets none
 module _ (Line : Request → List ℕ → Type 0) (Fault : Request → RequestCause → Type 0) where
-  -- the status and the lines of requests, the first of which has the number i
-  pub data AreAnswered (i : ℕ) : List Request → Status → List ℕ → Type 0 where
-    none_left : AreAnswered i [] Done []
-    refused : {q : Request} {qs : List Request} {cause : RequestCause} → Fault q cause
-        → AreAnswered i (q ∷ qs) (Refused i cause) []
-    answered : {q : Request} {qs : List Request} {line lines : List ℕ} {status : Status} → Line q line
-        → AreAnswered (suc i) qs status lines → AreAnswered i (q ∷ qs) status (line ++ lines)
+  -- the lines of requests, one behind the other
+  abbrev pub AreLines : List Request → List ℕ → Type 0
+  AreLines [] text = text ≡ []
+  AreLines (q ∷ qs) text =
+      (line : List ℕ) × (lines : List ℕ) × Line q line × AreLines qs lines × (text ≡ line ++ lines)
+
+  -- the lines of some requests in front
+  pub record BeginLines (requests : List Request) (text : List ℕ) : Type 0 where
+    pub count : ℕ
+    pub are : AreLines (take count requests) text
+
+  -- request i gets no line, and those before it do
+  pub record StopsAt (requests : List Request) (i : ℕ) (cause : RequestCause) (text : List ℕ) : Type 0 where
+    pub request : Request
+    pub request_is : slice_get requests i ≡ Some request
+    pub before : AreLines (take i requests) text
+    pub fault : Fault request cause
+
+  -- the status of requests, and the lines before it
+  pub data AreAnswered (requests : List Request) (status : Status) (text : List ℕ) : Type 0 where
+    all : AreLines requests text → status ≡ Done → AreAnswered requests status text
+    up_to : {i : ℕ} {cause : RequestCause} → StopsAt requests i cause text → status ≡ Refused i cause
+        → AreAnswered requests status text

@@ -1,6 +1,6 @@
 -- What a run does: which answer it gives, and what it appends.
 use Rattle.std.specs.Prelude.{◌≡◌, ◌⊎◌, ℕ, List, [], ◌++◌, Option, Some, IfSome}
-use Rattle.localise_run.specs.Answers.{Says}
+use Rattle.localise_run.specs.Answers.{Says, SaysFirst}
 use Rattle.localise_run.specs.Classes.{Class, Words, Reading, Refused, Answered, Writing, Memory, class_of}
 use Rattle.localise_run.specs.declared.command.Command.{Command}
 use Rattle.localise_run.specs.declared.status.Status.{Status}
@@ -22,19 +22,18 @@ pub record Written (O : Type 0) : Type 0 where
   pub faults_before : ℕ
   pub faults_now : ℕ
 
--- `Says` tells which answers there are, and the text that each appends
-module _ {O : Type 0} (took : O → List ℕ → O → Type 0) (Says : Status → List ℕ → Type 0) (x : Written O) where
+-- `Says` tells which answers there are, and the text that each appends; `First` tells texts that begin one
+module _ {O : Type 0} (took : O → List ℕ → O → Type 0) (Says : Status → List ℕ → Type 0) (First : List ℕ → Type 0) (x : Written O) where
   -- all of the text of this answer was taken
   pub record TookText (answer : Status) : Type 0 where
     pub text : List ℕ
     pub says : Says answer text
     pub taken : took x.old text x.new
 
-  -- a front of the text of an answer was taken
+  -- a front of a text that begins one was taken
   pub record TookFront : Type 0 where
-    pub answer : Status
     pub text : List ℕ
-    pub says : Says answer text
+    pub begins : First text
     pub front : TookPrefix took x.old text x.new
 
   -- what was appended under each class of answers
@@ -54,7 +53,7 @@ module _ {O : Type 0} (took : O → List ℕ → O → Type 0) (Says : Status �
 pub record GivesRead {O : Type 0} (took : O → List ℕ → O → Type 0) (command : Command) (left : Option (List ℕ)) (x : Written O) (answer : Status) : Type 0 where
   pub bytes : List ℕ
   pub read : AreRead left bytes
-  pub gives : Gives took (Says command bytes) x answer
+  pub gives : Gives took (Says command bytes) (SaysFirst command bytes) x answer
 
 -- What a command does: where reading fails nothing is appended and the source's count rose, and else the bytes that were read
 -- are answered.

@@ -5,7 +5,7 @@ ghost use Rattle.icu_list.specs.Patterns.{Patterns};
 ghost use Rattle.localise.specs.Kept.{AreAlike};
 ghost use Rattle.localise.specs.Meaning.{Meaning};
 ghost use Rattle.localise.specs.Views.{meanings, root_of, tables_of};
-ghost use Rattle.localise_run.specs.Rendering.{AreRendered, IsLine, IsLineFault};
+ghost use Rattle.localise_run.specs.Rendering.{AreRendered, BeginRendered, IsLine, IsLineFault};
 ghost use Rattle.localise_run.specs.Run.{Gives};
 ghost use Rattle.localise_run.specs.Writing.{FailsLine};
 ghost use Rattle.wanted_locale.specs.Wanted.{IsTagCause, IsWantedOf};
@@ -29,6 +29,7 @@ pub(crate) fn write_lines<O: Sink>(
     requires { tables_of localiser.now ≡ tables.now }
     ensures { (bundles : List Meaning) → AreAlike (meanings localiser.now) bundles
         → Gives O.took (AreRendered tables.now bundles (root_of localiser.now) requests.now)
+        (BeginRendered tables.now bundles (root_of localiser.now) requests.now)
         (record {
           old = out.old;
           new = out.new;
