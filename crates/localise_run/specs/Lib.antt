@@ -1,4 +1,5 @@
 pub mod Answers
+pub mod Causes
 pub mod Classes
 pub mod Commands
 pub mod FaultLines
@@ -9,3 +10,4 @@ pub mod Requests
 pub mod Run
 pub mod Tables
 pub mod Walking
+pub mod Writing

@@ -1,5 +1,9 @@
 //! What all commands do first: a document's tables and its bundles.
 
+ghost use Rattle.std.specs.Prelude.{◌≡◌};
+ghost use Rattle.localise_run.specs.Answers.{status_of};
+ghost use Rattle.localise_run.specs.Causes.{status_of_document, status_of_fallback, status_of_registry};
+
 use crate::{Status, TableCause};
 use icu_locale_fallback::{FallbackRows, LocaleFallbacker, TableError};
 use language_tags::{Registry, RegistryError, RegistryRows};
@@ -23,14 +27,18 @@ pub(crate) fn tables_of(
     })
 }
 
-fn of_registry(error: RegistryError) -> Status {
+fn of_registry(error: RegistryError) -> Status
+    ensures { result ≡ status_of_registry error }
+{
     match error {
         RegistryError::NoMemory => Status::NoMemory,
         error => Status::Table(TableCause::Registry(error)),
     }
 }
 
-fn of_fallback(error: TableError) -> Status {
+fn of_fallback(error: TableError) -> Status
+    ensures { result ≡ status_of_fallback error }
+{
     match error {
         TableError::NoMemory => Status::NoMemory,
         error => Status::Table(TableCause::Fallback(error)),
@@ -38,7 +46,9 @@ fn of_fallback(error: TableError) -> Status {
 }
 
 /// The status of a document that isn't read.
-pub(crate) fn of_document(error: DocumentError) -> Status {
+pub(crate) fn of_document(error: DocumentError) -> Status
+    ensures { result ≡ status_of_document error }
+{
     match error {
         DocumentError::NotJson => Status::NotJson,
         DocumentError::Shape(place) => Status::Shape(place),
@@ -48,7 +58,9 @@ pub(crate) fn of_document(error: DocumentError) -> Status {
 
 /// The status of bundles or a root that are refused. The last three aren't answered by a
 /// `Localiser`'s constructors.
-pub(crate) fn of_refusal(error: RenderError) -> Status {
+pub(crate) fn of_refusal(error: RenderError) -> Status
+    ensures { result ≡ status_of error }
+{
     match error {
         RenderError::Bundle(i, cause) => Status::Bundle(i, cause),
         RenderError::DuplicateLocale(i) => Status::DuplicateLocale(i),

@@ -1,14 +1,13 @@
 //! `render`: a localised line for each request.
 
-ghost use Rattle.std.specs.Prelude.{◌≡◌, ◌≢◌, ℕ, List, OnOk, IfErr};
-ghost use Rattle.icu_list.specs.Patterns.{Patterns};
+ghost use Rattle.std.specs.Prelude.{◌≡◌, List, IfErr, OnOk};
 ghost use Rattle.localise.specs.Kept.{AreAlike};
 ghost use Rattle.localise.specs.Meaning.{Meaning};
 ghost use Rattle.localise.specs.Views.{meanings, root_of, tables_of};
-ghost use Rattle.localise_run.specs.Rendering.{AreRendered, BeginRendered, IsLine, IsLineFault};
+ghost use Rattle.localise_run.specs.Causes.{status_of_sink, status_of_tag};
+ghost use Rattle.localise_run.specs.Rendering.{AreRendered, BeginRendered, IsLine, IsLineFault, Wants};
 ghost use Rattle.localise_run.specs.Run.{Gives};
-ghost use Rattle.localise_run.specs.Writing.{FailsLine};
-ghost use Rattle.wanted_locale.specs.Wanted.{IsTagCause, IsWantedOf};
+ghost use Rattle.localise_run.specs.Writing.{FailsLine, TookLine};
 
 use crate::tags::{LastTag, locale_of};
 use crate::{RequestCause, Status};
@@ -40,15 +39,14 @@ pub(crate) fn write_lines<O: Sink>(
     let mut last = None;
     for number in 0..requests.len() {
         let request = &requests[number];
-        let tag = request.tag.as_str();
-        let locale = match locale_of(alloc, tables, last, tag) {
-            Ok(locale) => locale,
+        let wanted = match locale_of(alloc, tables, last, request.tag.as_str()) {
+            Ok(wanted) => wanted,
             Err(cause) => return of_tag(number, cause),
         };
-        if let Err(status) = write_line(localiser, locale, number, request, out) {
+        if let Err(status) = write_line(localiser, wanted.locale, number, request, out) {
             return status;
         }
-        last = Some(LastTag { tag, locale });
+        last = Some(wanted);
     }
     Status::Done
 }
@@ -61,6 +59,27 @@ fn write_line<O: Sink>(
     request: &Request,
     out: &mut O,
 ) -> Result<(), Status>
+    requires { Wants (tables_of localiser.now) request.now locale }
+    ensures ok { (bundles : List Meaning) → AreAlike (meanings localiser.now) bundles
+        → OnOk result (TookLine O.took
+        (IsLine (tables_of localiser.now) bundles (root_of localiser.now))
+        (IsLineFault (tables_of localiser.now) bundles (root_of localiser.now))
+        (record {
+          old = out.old;
+          new = out.new;
+          faults_before = O.faults out.old;
+          faults_now = O.faults out.new;
+        }) number request.now) }
+    ensures err { (bundles : List Meaning) → AreAlike (meanings localiser.now) bundles
+        → IfErr result (FailsLine O.took
+        (IsLine (tables_of localiser.now) bundles (root_of localiser.now))
+        (IsLineFault (tables_of localiser.now) bundles (root_of localiser.now))
+        (record {
+          old = out.old;
+          new = out.new;
+          faults_before = O.faults out.old;
+          faults_now = O.faults out.new;
+        }) number request.now) }
 {
     let Ok(found) = localiser.find(locale, request) else {
         return Err(Status::Request(number, RequestCause::ChainLoops));
@@ -70,7 +89,9 @@ fn write_line<O: Sink>(
 }
 
 /// The status of a request whose tag asks for no locale.
-pub(crate) fn of_tag(number: usize, cause: TagCause) -> Status {
+pub(crate) fn of_tag(number: usize, cause: TagCause) -> Status
+    ensures { result ≡ status_of_tag number cause }
+{
     match cause {
         TagCause::NoMemory => Status::NoMemory,
         cause => Status::Request(number, RequestCause::Tag(cause)),
@@ -78,7 +99,9 @@ pub(crate) fn of_tag(number: usize, cause: TagCause) -> Status {
 }
 
 /// The status of a sink that fails.
-pub(crate) fn of_sink(error: SinkError) -> Status {
+pub(crate) fn of_sink(error: SinkError) -> Status
+    ensures { result ≡ status_of_sink error }
+{
     match error {
         SinkError::Fault => Status::WriteFault,
         SinkError::NoMemory => Status::NoMemory,

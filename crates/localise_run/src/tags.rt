@@ -1,6 +1,6 @@
 //! The locale of each request's tag.
 
-ghost use Rattle.std.specs.Prelude.{◌≢◌, IfErr, IfOk, IfSome};
+ghost use Rattle.std.specs.Prelude.{◌≡◌, ◌≢◌, IfErr, IfOk, IfSome};
 ghost use Rattle.wanted_locale.specs.Wanted.{IsTagCause, IsWantedOf};
 
 use icu_locale_core::DataLocale;
@@ -15,19 +15,23 @@ pub(crate) struct LastTag<'a> {
 }
 
 /// The locale that a tag asks for. A tag that is the last one isn't read again.
-pub(crate) fn locale_of(
+pub(crate) fn locale_of<'a>(
     alloc: Global,
     tables: &Tables,
-    last: Option<LastTag<'_>>,
-    tag: &str,
-) -> Result<DataLocale, TagCause>
+    last: Option<LastTag<'a>>,
+    tag: &'a str,
+) -> Result<LastTag<'a>, TagCause>
     requires { IfSome last (λ l. IsWantedOf tables.now.registry l.tag.now l.locale) }
-    ensures ok { IfOk result (IsWantedOf tables.now.registry tag.now) }
+    ensures ok { IfOk result (λ l. IsWantedOf tables.now.registry l.tag.now l.locale) }
+    ensures tag { IfOk result (λ l. l.tag.now ≡ tag.now) }
     ensures err { IfErr result (λ cause. cause ≢ TagCause.NoMemory
         → IsTagCause tables.now.registry tag.now cause) }
 {
-    match last {
-        Some(last) if last.tag == tag => Ok(last.locale),
-        _ => wanted(alloc, tables, tag),
+    if let Some(last) = last {
+        if last.tag == tag {
+            return Ok(last);
+        }
     }
+    let locale = wanted(alloc, tables, tag)?;
+    Ok(LastTag { tag, locale })
 }
