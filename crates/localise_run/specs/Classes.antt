@@ -43,3 +43,31 @@ code_of ReadFault = 8
 code_of WriteFault = 9
 code_of NoMemory = 10
 code_of TooLong = 11
+
+-- a source, an output or memory that failed
+abbrev pub FailsIn : Class → Type 0
+FailsIn Words = ⊥
+FailsIn Reading = Unit {0}
+FailsIn Refused = ⊥
+FailsIn Answered = ⊥
+FailsIn Writing = Unit {0}
+FailsIn Memory = Unit {0}
+
+abbrev pub IsFailure : Status → Type 0
+IsFailure status = FailsIn (class_of status)
+
+-- an answer that comes once the source was read to its end: all but too long, and those of words, reading and memory
+abbrev pub ComesAtEnd : Status → Type 0
+ComesAtEnd Done = Unit {0}
+ComesAtEnd BadWords = ⊥
+ComesAtEnd NotJson = Unit {0}
+ComesAtEnd (Shape place) = Unit {0}
+ComesAtEnd (Table cause) = Unit {0}
+ComesAtEnd (Bundle i cause) = Unit {0}
+ComesAtEnd (DuplicateLocale i) = Unit {0}
+ComesAtEnd (Root fault) = Unit {0}
+ComesAtEnd (Request i cause) = Unit {0}
+ComesAtEnd ReadFault = ⊥
+ComesAtEnd WriteFault = Unit {0}
+ComesAtEnd NoMemory = ⊥
+ComesAtEnd TooLong = ⊥

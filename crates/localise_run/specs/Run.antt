@@ -22,6 +22,10 @@ pub record Written (O : Type 0) : Type 0 where
   pub faults_before : ℕ
   pub faults_now : ℕ
 
+-- an output that counts its faults so
+abbrev pub written : {O : Type 0} → (O → ℕ) → O → O → Written O
+written faults old new = record { old = old; new = new; faults_before = faults old; faults_now = faults new }
+
 -- `Says` tells which answers there are, and the text that each appends; `First` tells texts that begin one
 module _ {O : Type 0} (took : O → List ℕ → O → Type 0) (Says : Status → List ℕ → Type 0) (First : List ℕ → Type 0) (x : Written O) where
   -- all of the text of this answer was taken

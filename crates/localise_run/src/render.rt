@@ -6,7 +6,7 @@ ghost use Rattle.localise.specs.Meaning.{Meaning};
 ghost use Rattle.localise.specs.Views.{meanings, root_of, tables_of};
 ghost use Rattle.localise_run.specs.Causes.{status_of_sink, status_of_tag};
 ghost use Rattle.localise_run.specs.Rendering.{AreRendered, BeginRendered, IsLine, IsLineFault, Wants};
-ghost use Rattle.localise_run.specs.Run.{Gives};
+ghost use Rattle.localise_run.specs.Run.{Gives, written};
 ghost use Rattle.localise_run.specs.Writing.{FailsLine, TookLine};
 
 use crate::tags::{LastTag, locale_of};
@@ -29,12 +29,7 @@ pub(crate) fn write_lines<O: Sink>(
     ensures { (bundles : List Meaning) → AreAlike (meanings localiser.now) bundles
         → Gives O.took (AreRendered tables.now bundles (root_of localiser.now) requests.now)
         (BeginRendered tables.now bundles (root_of localiser.now) requests.now)
-        (record {
-          old = out.old;
-          new = out.new;
-          faults_before = O.faults out.old;
-          faults_now = O.faults out.new;
-        }) result }
+        (written O.faults out.old out.new) result }
 {
     let mut last = None;
     for number in 0..requests.len() {
@@ -64,22 +59,12 @@ fn write_line<O: Sink>(
         → OnOk result (TookLine O.took
         (IsLine (tables_of localiser.now) bundles (root_of localiser.now))
         (IsLineFault (tables_of localiser.now) bundles (root_of localiser.now))
-        (record {
-          old = out.old;
-          new = out.new;
-          faults_before = O.faults out.old;
-          faults_now = O.faults out.new;
-        }) number request.now) }
+        (written O.faults out.old out.new) number request.now) }
     ensures err { (bundles : List Meaning) → AreAlike (meanings localiser.now) bundles
         → IfErr result (FailsLine O.took
         (IsLine (tables_of localiser.now) bundles (root_of localiser.now))
         (IsLineFault (tables_of localiser.now) bundles (root_of localiser.now))
-        (record {
-          old = out.old;
-          new = out.new;
-          faults_before = O.faults out.old;
-          faults_now = O.faults out.new;
-        }) number request.now) }
+        (written O.faults out.old out.new) number request.now) }
 {
     let Ok(found) = localiser.find(locale, request) else {
         return Err(Status::Request(number, RequestCause::ChainLoops));

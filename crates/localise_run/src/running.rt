@@ -4,7 +4,7 @@ ghost use Rattle.localise_run.specs.Answers.{IsAnswer, Says};
 ghost use Rattle.localise_run.specs.Classes.{class_of};
 ghost use Rattle.localise_run.specs.Commands.{AreNoCommand, IsCommand};
 ghost use Rattle.localise_run.specs.FaultLines.{IsReported, fault_line};
-ghost use Rattle.localise_run.specs.Run.{AreRead, Appended, ComesAtEnd, IsFailure, IsKept, Runs};
+ghost use Rattle.localise_run.specs.Run.{AreRead, Appended, ComesAtEnd, IsFailure, Runs, written};
 ghost use Rattle.reading.specs.Reading.{IsReadToEnd};
 ghost use Rattle.writeable_core.specs.Sink.{Rose};
 
@@ -43,12 +43,7 @@ pub fn run<S: Source, O: Sink, E: Sink>(
     ensures bad_words { (result ≡ Status.BadWords) ↔ AreNoCommand words.now }
     ensures runs { (command : Command) → IsCommand words.now command
         → Runs O.took command (S.left source.old) (S.faults source.old) (S.faults source.new)
-        (record {
-          old = out.old;
-          new = out.new;
-          faults_before = O.faults out.old;
-          faults_now = O.faults out.new;
-        }) (class_of result) result }
+        (written O.faults out.old out.new) (class_of result) result }
     ensures no_fault { result ≡ Status.TooLong → S.faults source.new ≡ S.faults source.old }
     ensures unread { result ≡ Status.BadWords → (source.new ≡ source.old) × (out.new ≡ out.old) }
 

@@ -1,7 +1,13 @@
 //! `walk`: for each request the locales of its whole walk.
 
+ghost use Rattle.std.specs.Prelude.{IfErr, OnOk};
+ghost use Rattle.localise_run.specs.Rendering.{Wants};
+ghost use Rattle.localise_run.specs.Run.{Gives, written};
+ghost use Rattle.localise_run.specs.Walking.{AreWalked, BeginWalked, IsWalkFault, IsWalkLine};
+ghost use Rattle.localise_run.specs.Writing.{FailsLine, TookLine};
+
 use crate::render::{of_sink, of_tag};
-use crate::tags::{LastTag, locale_of};
+use crate::tags::locale_of;
 use crate::{RequestCause, Status};
 use fallback_chain::{steps_to_end, write_chain};
 use icu_locale_core::DataLocale;
@@ -17,18 +23,20 @@ pub(crate) fn write_walks<O: Sink>(
     requests: &[Request],
     out: &mut O,
 ) -> Status
+    ensures { Gives O.took (AreWalked tables.now requests.now) (BeginWalked tables.now requests.now)
+        (written O.faults out.old out.new) result }
 {
     let mut last = None;
     for number in 0..requests.len() {
-        let tag = requests[number].tag.as_str();
-        let locale = match locale_of(alloc, tables, last, tag) {
-            Ok(locale) => locale,
+        let request = &requests[number];
+        let wanted = match locale_of(alloc, tables, last, request.tag.as_str()) {
+            Ok(wanted) => wanted,
             Err(cause) => return of_tag(number, cause),
         };
-        if let Err(status) = write_walk(tables, locale, number, out) {
+        if let Err(status) = write_walk(tables, wanted.locale, number, request, out) {
             return status;
         }
-        last = Some(LastTag { tag, locale });
+        last = Some(wanted);
     }
     Status::Done
 }
@@ -38,9 +46,16 @@ fn write_walk<O: Sink>(
     tables: &Tables,
     locale: DataLocale,
     number: usize,
+    request: &Request,
     out: &mut O,
 ) -> Result<(), Status>
+    requires { Wants tables.now request.now locale }
+    ensures ok { OnOk result (TookLine O.took (IsWalkLine tables.now) (IsWalkFault tables.now)
+        (written O.faults out.old out.new) number request.now) }
+    ensures err { IfErr result (FailsLine O.took (IsWalkLine tables.now) (IsWalkFault tables.now)
+        (written O.faults out.old out.new) number request.now) }
 {
+    let _request = request;
     let Some(steps) = steps_to_end(&tables.fallbacker, locale) else {
         return Err(Status::Request(number, RequestCause::ChainLoops));
     };
