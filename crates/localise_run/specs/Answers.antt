@@ -63,14 +63,18 @@ pub data Says (command : Command) (bytes : List ℕ) (answer : Status) (text : L
   document : {d : Contents} → length bytes ≤ most_bytes → IsDocument bytes d → IsAnswer command d answer text
       → Says command bytes answer text
 
--- a text that begins what is appended of bytes: they are a document whose tables, bundles and root are accepted
-pub record SaysFirst (command : Command) (bytes text : List ℕ) : Type 0 where
-  pub within : length bytes ≤ most_bytes
-  pub d : Contents
-  pub document : IsDocument bytes d
+-- a text that begins what is appended of a document, whose tables, bundles and root are accepted
+pub record IsBegun (command : Command) (d : Contents) (text : List ℕ) : Type 0 where
   pub T : Tables
   pub tables : HasTables d T
   pub bundles : List Meaning
   pub root : Patterns
   pub accepted : AreAccepted T d.bundles d.root bundles root
   pub begins : Begins command T bundles root d.requests text
+
+-- a text that begins what is appended of bytes
+pub record SaysFirst (command : Command) (bytes text : List ℕ) : Type 0 where
+  pub within : length bytes ≤ most_bytes
+  pub d : Contents
+  pub document : IsDocument bytes d
+  pub begun : IsBegun command d text

@@ -1,11 +1,12 @@
 ghost use Rattle.std.specs.Prelude.{◌≡◌, ◌≢◌, ◌≤◌, ◌↔◌, ◌⊎◌, ℕ, List, IfSome, length};
 ghost use Rattle.localise_document.specs.Contents.{Contents};
-ghost use Rattle.localise_run.specs.Answers.{IsAnswer, Says};
-ghost use Rattle.localise_run.specs.Classes.{class_of};
+ghost use Rattle.localise_run.specs.Answers.{IsAnswer, IsBegun, Says, SaysFirst};
+ghost use Rattle.localise_run.specs.Causes.{status_of_reading};
+ghost use Rattle.localise_run.specs.Classes.{ComesAtEnd, IsFailure, IsOfBytes, class_of};
 ghost use Rattle.localise_run.specs.Commands.{AreNoCommand, IsCommand};
 ghost use Rattle.localise_run.specs.FaultLines.{IsReported, fault_line};
-ghost use Rattle.localise_run.specs.Run.{AreRead, Appended, ComesAtEnd, IsFailure, Runs, written};
-ghost use Rattle.reading.specs.Reading.{IsReadToEnd};
+ghost use Rattle.localise_run.specs.Run.{AreRead, Appended, Gives, Runs, written};
+ghost use Rattle.reading.specs.Reading.{IsReadToEnd, most_bytes};
 ghost use Rattle.writeable_core.specs.Sink.{Rose};
 
 use crate::generate::write_numbers;
@@ -79,17 +80,37 @@ fn run_command<S: Source, O: Sink>(
     source: &mut S,
     out: &mut O,
 ) -> Status
+    ensures runs { Runs O.took command (S.left source.old) (S.faults source.old)
+        (S.faults source.new) (written O.faults out.old out.new) (class_of result) result }
+    ensures read_to_end { ComesAtEnd result
+        → IsReadToEnd S.left S.ended S.faults source.old source.new }
+    ensures no_fault { result ≡ Status.TooLong → S.faults source.new ≡ S.faults source.old }
+    ensures command { result ≢ Status.BadWords }
 {
     match read_all(alloc, source) {
         Ok(bytes) => run_over(alloc, command, bytes, out),
-        Err(ReadError::Fault) => Status::ReadFault,
-        Err(ReadError::TooLong) => Status::TooLong,
-        Err(ReadError::NoMemory) => Status::NoMemory,
+        Err(error) => of_reading(error),
+    }
+}
+
+/// The status of a source that isn't read to its end.
+fn of_reading(error: ReadError) -> Status
+    ensures { result ≡ status_of_reading error }
+{
+    match error {
+        ReadError::Fault => Status::ReadFault,
+        ReadError::TooLong => Status::TooLong,
+        ReadError::NoMemory => Status::NoMemory,
     }
 }
 
 /// Runs a command over the bytes of a document.
-fn run_over<O: Sink>(alloc: Global, command: Command, bytes: Vec<u8>, out: &mut O) -> Status {
+fn run_over<O: Sink>(alloc: Global, command: Command, bytes: Vec<u8>, out: &mut O) -> Status
+    requires { length bytes.items ≤ most_bytes }
+    ensures { Gives O.took (Says command bytes.items) (SaysFirst command bytes.items)
+        (written O.faults out.old out.new) result }
+    ensures read { IsOfBytes result }
+{
     match read_document(alloc, bytes) {
         Ok(document) => run_document(alloc, command, document, out),
         Err(error) => of_document(error),
@@ -103,6 +124,9 @@ fn run_document<O: Sink>(
     document: Document,
     out: &mut O,
 ) -> Status
+    ensures { Gives O.took (IsAnswer command document) (IsBegun command document)
+        (written O.faults out.old out.new) result }
+    ensures read { IsOfBytes result }
 {
     let Document {
         registry,
