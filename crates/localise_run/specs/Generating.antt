@@ -5,7 +5,9 @@ use Rattle.icu_list.specs.Patterns.{Patterns}
 use Rattle.icu_locale_core.specs.Locale.{Locale}
 use Rattle.localise.specs.Chosen.{Answer, Answers}
 use Rattle.localise.specs.Meaning.{Meaning}
-use Rattle.localise_run.specs.Rendering.{AreRendered, Wants, line_of}
+use Rattle.localise_run.specs.Rendering.{AreRendered, IsLine, IsLineFault, Wants, line_of}
+use Rattle.localise_run.specs.Requests.{AreLines}
+use Rattle.localise_run.specs.declared.generate.Counted.{Counted}
 use Rattle.localise_run.specs.declared.status.Status.{Status}
 use Rattle.localise_run.specs.declared.status.Status.TheVariants.{Done}
 use Rattle.localise_texts.specs.declared.request.Request.{Request}
@@ -26,15 +28,15 @@ made (q ∷ qs) i (suc n) = made_from i (get_or (q ∷ qs) (i % length (q ∷ qs
 abbrev pub at_most_64_bits : ℕ → ℕ
 at_most_64_bits n = min n (2 ^ 64 - 1)
 
--- a word, a space and a number, as a line
+-- a word and a number, as a line
 abbrev pub number_line : List ℕ → ℕ → List ℕ
-number_line word n = line_of (word ++ (32 ∷ decimal n))
+number_line word n = word ++ line_of (decimal n)
 
 -- the three lines of so many requests, bytes and visited locales
 abbrev pub three_lines : ℕ → ℕ → ℕ → List ℕ
 three_lines requests bytes visited =
-    number_line (codes "requests") requests
-    ++ (number_line (codes "bytes") (at_most_64_bits bytes) ++ number_line (codes "visited") visited)
+    number_line (codes "requests ") requests
+    ++ (number_line (codes "bytes ") bytes ++ number_line (codes "visited ") visited)
 
 module _ (T : Tables) (bundles : List Meaning) (root : Patterns) where
   -- how many locales the walk of a request visits
@@ -50,13 +52,19 @@ module _ (T : Tables) (bundles : List Meaning) (root : Patterns) where
   AreVisited [] total = total ≡ 0
   AreVisited (q ∷ qs) total = (count : ℕ) × (rest : ℕ) × Visits q count × AreVisited qs rest × (total ≡ count + rest)
 
-  -- the numbers of requests each of which has a line
-  pub record AreNumbers (requests : List Request) (text : List ℕ) : Type 0 where
+  -- what is counted of requests each of which has a line
+  pub record AreCounted (requests : List Request) (counted : Counted) : Type 0 where
     pub lines : List ℕ
-    pub rendered : AreRendered T bundles root requests Done lines
-    pub visited : ℕ
-    pub are_visited : AreVisited requests visited
-    pub text_is : text ≡ three_lines (length requests) (byte_length lines) visited
+    pub are_lines : AreLines (IsLine T bundles root) (IsLineFault T bundles root) requests lines
+    pub requests_are : counted.requests ≡ length requests
+    pub bytes_are : counted.bytes ≡ at_most_64_bits (byte_length lines)
+    pub visited_are : AreVisited requests counted.visited
+
+  -- the three lines of such requests
+  pub record AreNumbers (requests : List Request) (text : List ℕ) : Type 0 where
+    pub counted : Counted
+    pub are : AreCounted requests counted
+    pub text_is : text ≡ three_lines counted.requests counted.bytes counted.visited
 
   -- the status of made requests: that of rendering them; and where each has a line, their numbers as text
   pub data AreGenerated (requests : List Request) (status : Status) (text : List ℕ) : Type 0 where

@@ -1,5 +1,17 @@
 //! `generate`: requests made from those of a document, and three numbers of their lines.
 
+ghost use Rattle.std.specs.Fmt.{decimal};
+ghost use Rattle.std.specs.Prelude.{◌≡◌, ◌≢◌, ◌⊎◌, ◌≤◌, ◌++◌, ◌∷◌, [], ℕ, List, IfErr, IfOk, OnErr, OnOk, length};
+ghost use Rattle.std.specs.Str.{chars};
+ghost use Rattle.localise.specs.Kept.{AreAlike};
+ghost use Rattle.localise.specs.Meaning.{Meaning};
+ghost use Rattle.localise.specs.Views.{meanings, root_of, tables_of};
+ghost use Rattle.localise_run.specs.Generating.{AreCounted, AreGenerated, AreNumbers, made, made_from, three_lines};
+ghost use Rattle.localise_run.specs.Rendering.{AreRendered, IsLine, IsLineFault, Wants};
+ghost use Rattle.localise_run.specs.Run.{Gives, written};
+ghost use Rattle.localise_run.specs.declared.status.Status.{Status as Ended};
+ghost use Rattle.writeable_core.specs.Sink.{HasCause, TookPrefix};
+
 use crate::render::{of_sink, of_tag};
 use crate::{RequestCause, Status};
 use icu_locale_core::DataLocale;
@@ -25,6 +37,13 @@ pub(crate) fn write_numbers<O: Sink>(
     count: u32,
     out: &mut O,
 ) -> Status
+    requires tables { tables_of localiser.now ≡ tables.now }
+    requires few { count ≤ 1_000_000 }
+    ensures { (bundles : List Meaning) → AreAlike (meanings localiser.now) bundles
+        → Gives O.took
+        (AreGenerated tables.now bundles (root_of localiser.now) (made requests.items 0 count))
+        (AreNumbers tables.now bundles (root_of localiser.now) (made requests.items 0 count))
+        (written O.faults out.old out.new) result }
 {
     match count_lines(alloc, tables, localiser, &mut requests, count) {
         Ok(counted) => match write_counted(&counted, out) {
@@ -43,6 +62,16 @@ fn count_lines(
     requests: &mut [Request],
     count: u32,
 ) -> Result<Counted, Status>
+    requires tables { tables_of localiser.now ≡ tables.now }
+    requires few { count ≤ 1_000_000 }
+    ensures ok { (bundles : List Meaning) → AreAlike (meanings localiser.now) bundles
+        → IfOk result (AreCounted tables.now bundles (root_of localiser.now)
+        (made requests.old 0 count)) }
+    ensures err { (bundles : List Meaning) → AreAlike (meanings localiser.now) bundles
+        → IfErr result (λ status. (status ≡ Ended.NoMemory)
+        ⊎ ((status ≢ Ended.Done) × ((lines : List ℕ)
+        × AreRendered tables.now bundles (root_of localiser.now) (made requests.old 0 count)
+        status lines))) }
 {
     let mut counted = Counted {
         requests: 0,
@@ -71,7 +100,9 @@ fn count_lines(
 }
 
 /// Gives a request the count and the items of a made request.
-fn remake(alloc: Global, request: &mut Request, number: u32) -> Result<(), AllocError> {
+fn remake(alloc: Global, request: &mut Request, number: u32) -> Result<(), AllocError>
+    ensures { OnOk result (request.new ≡ made_from number request.old) }
+{
     let mut items = TextList::new(alloc);
     for _ in 0..number % 4 {
         items.push(OwnedText::new(alloc, "x")?)?;
@@ -99,7 +130,13 @@ fn count_line(
 }
 
 /// Writes the three lines.
-fn write_counted<O: Sink>(counted: &Counted, out: &mut O) -> Result<(), SinkError> {
+fn write_counted<O: Sink>(counted: &Counted, out: &mut O) -> Result<(), SinkError>
+    ensures ok { OnOk result (O.took out.old
+        (three_lines counted.now.requests counted.now.bytes counted.now.visited) out.new) }
+    ensures err { OnErr result (TookPrefix O.took out.old
+        (three_lines counted.now.requests counted.now.bytes counted.now.visited) out.new) }
+    ensures cause { HasCause (O.faults out.old) (O.faults out.new) (O.takes_memory out.old) result }
+{
     write_number("requests ", counted.requests, out)?;
     write_number("bytes ", counted.bytes, out)?;
     write_number("visited ", counted.visited, out)
@@ -111,6 +148,11 @@ fn write_number<N: Writeable, O: Sink>(
     number: N,
     out: &mut O,
 ) -> Result<(), SinkError>
+    ensures ok { OnOk result
+        (O.took out.old (chars word.now ++ (N.text number ++ 10 ∷ [])) out.new) }
+    ensures err { OnErr result
+        (TookPrefix O.took out.old (chars word.now ++ (N.text number ++ 10 ∷ [])) out.new) }
+    ensures cause { HasCause (O.faults out.old) (O.faults out.new) (O.takes_memory out.old) result }
 {
     out.push_str(word)?;
     number.write_to(out)?;
