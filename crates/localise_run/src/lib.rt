@@ -36,5 +36,6 @@ mod walk;
 pub use command::Command;
 pub use fault_line::write_fault_line;
 pub use localise_document::{Field, Section, ShapePlace};
+
 pub use running::run;
 pub use status::{RequestCause, Status, TableCause};
