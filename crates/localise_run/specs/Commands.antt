@@ -1,21 +1,15 @@
 -- The commands, and the words that they are.
-use Rattle.std.specs.Prelude.{◌≡◌, ◌≤◌, ℕ, ◌+◌, ◌*◌, ◌-◌, List, [], ◌∷◌, codes, length, map, fold, String, string_bytes, IsTrue}
-use Rattle.std.specs.Char.{is_ascii_digit}
-use Rattle.std.specs.List.{list_all}
+use Rattle.std.specs.Prelude.{◌≡◌, ◌≤◌, ℕ, List, [], ◌∷◌, codes, length, map, String, string_bytes}
+use Rattle.std.specs.Str.Parse.{IsNumeral, digits_value}
 use Rattle.std.specs.declared.alloc.Global.{Global}
 use Rattle.localise_run.specs.declared.command.Command.{Command}
 use Rattle.localise_run.specs.declared.command.Command.TheVariants.{Render, Walk, Generate}
 
--- the number of decimal digits
-abbrev pub number_of : List ℕ → ℕ
-number_of digits = fold (λ n digit. n * 10 + (digit - 48)) 0 digits
-
--- one to seven digits, with a number from 1 to 1,000,000
+-- one to seven decimal digits, with a number from 1 to 1,000,000
 pub record IsNumber (digits : List ℕ) (n : ℕ) : Type 0 where
-  pub some : 1 ≤ length digits
+  pub numeral : IsNumeral 10 digits
   pub few : length digits ≤ 7
-  pub digits_are : IsTrue (list_all is_ascii_digit digits)
-  pub number : n ≡ number_of digits
+  pub number : n ≡ digits_value 10 digits
   pub positive : 1 ≤ n
   pub most : n ≤ 1_000_000
 

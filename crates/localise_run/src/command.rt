@@ -1,4 +1,4 @@
-ghost use Rattle.std.specs.Prelude.{◌≡◌, Some, None, MatchOption, IfSome};
+ghost use Rattle.std.specs.Prelude.{◌≡◌, MatchOption, codes};
 ghost use Rattle.localise_run.specs.Commands.{AreNoCommand, IsCommand, IsNumber};
 
 /// What a run does with a document.
@@ -18,18 +18,11 @@ impl Command {
         ensures { MatchOption result (AreNoCommand words.now) (IsCommand words.now) }
     {
         match words {
-            [word] => Command::of_word(word.as_str()),
+            [word] if word.as_str() == "render" => Some(Command::Render),
+            [word] if word.as_str() == "walk" => Some(Command::Walk),
             [word, digits] if word.as_str() == "generate" => {
-                number_of(digits.as_str()).map(Command::Generate)
+                Some(Command::Generate(number_of(digits.as_str())?))
             }
-            _ => None,
-        }
-    }
-
-    fn of_word(word: &str) -> Option<Command> {
-        match word {
-            "render" => Some(Command::Render),
-            "walk" => Some(Command::Walk),
             _ => None,
         }
     }
@@ -42,7 +35,7 @@ const MOST: u32 = 1_000_000;
 fn number_of(digits: &str) -> Option<u32>
     ensures { MatchOption result ((n : _) → ¬ (IsNumber digits.now n)) (IsNumber digits.now) }
 {
-    if digits.len() > 7 || !digits.bytes().all(|digit| digit.is_ascii_digit()) {
+    if digits.len() > 7 || digits.starts_with("+") {
         return None;
     }
     let number = digits.parse::<u32>().ok()?;
