@@ -1,9 +1,14 @@
--- Laws of wanted locales, as statements: a text asks for one locale or has one cause, never both.
-use Rattle.std.specs.Prelude.{◌≡◌, ℕ, List}
-use Rattle.icu_locale_core.specs.Locale.{Locale}
-use Rattle.language_tags_registry.specs.Registry.{Tables}
+-- Laws of wanted locales, as statements: a text asks for one locale or has one cause, never both; and what texts ask for over
+-- an empty registry.
+use Rattle.std.specs.Prelude.{◌≡◌, ◌↔◌, ◌≤◌, ℕ, List, [], length, None}
+use Rattle.icu_locale_core.specs.Locale.{IsLocale, Locale, print}
+use Rattle.language_tags.specs.declared.error.ValidationError.TheVariants.{MultipleExtendedLanguageSubtags}
+use Rattle.language_tags_grammar.specs.Tag.{Parts, Plain}
+use Rattle.language_tags_grammar.specs.TagOf.{IsTagOf}
+use Rattle.language_tags_registry.specs.Registry.{Tables, tables_at}
 use Rattle.wanted_locale.specs.Wanted.{IsWantedOf, IsTagCause}
 use Rattle.wanted_locale.specs.declared.error.TagCause.{TagCause}
+use Rattle.wanted_locale.specs.declared.error.TagCause.TheVariants.{Canonical}
 
 -- a text asks for one locale at most
 abbrev pub OneWanted : Type 0
@@ -16,3 +21,18 @@ OneCause = (R : Tables) (text : List ℕ) (c d : TagCause) → IsTagCause R text
 -- and none where it asks for a locale
 abbrev pub NeverBoth : Type 0
 NeverBoth = (R : Tables) (text : List ℕ) (l : Locale) (c : TagCause) → IsWantedOf R text l → ¬ (IsTagCause R text c)
+
+-- a registry without entries
+abbrev pub empty_registry : Tables
+empty_registry = tables_at []
+
+-- over it the printed text of a data locale without subdivision asks for that locale
+abbrev pub PrintedIsWanted : Type 0
+PrintedIsWanted = (l : Locale) → IsLocale l → l.subdivision ≡ None → IsWantedOf empty_registry (print l) l
+
+-- and a tag has no canonical form exactly where it isn't whole and has two extlangs or more
+abbrev pub CanonicalByExtlangs : Type 0
+CanonicalByExtlangs =
+    (text : List ℕ) →
+    (IsTagCause empty_registry text (Canonical MultipleExtendedLanguageSubtags)
+    ↔ ((p : Parts) × IsTagOf text (Plain p) × (2 ≤ length p.extlangs)))

@@ -16,7 +16,7 @@ use Rattle.unic_langid_impl.specs.declared.errors.LanguageIdentifierError.TheVar
 use Rattle.unic_langid_impl.specs.declared.parser.error.ParserError.TheVariants as parser
 use Rattle.unic_langid_impl.specs.Faults as identifiers
 use Rattle.wanted_locale.specs.declared.error.TagCause.{TagCause}
-use Rattle.wanted_locale.specs.declared.error.TagCause.TheVariants.{Parse, Canonical, Identifier as NoIdentifier, NoMemory}
+use Rattle.wanted_locale.specs.declared.error.TagCause.TheVariants.{Parse, Canonical, Identifier as NoIdentifier}
 
 -- the text is a tag, and this is its canonical form, or it has none
 pub record HasCanon (R : Tables) (text : List ℕ) (canonical : Option Tag) : Type 0 where

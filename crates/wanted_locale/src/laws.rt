@@ -1,10 +1,26 @@
 //! Laws of wanted locales, for contracts that cite them. Each function does nothing: its contract
 //! is the law.
-ghost use Rattle.wanted_locale.specs.Laws.{NeverBoth, OneCause, OneWanted};
+ghost use Rattle.wanted_locale.specs.Laws.{CanonicalByExtlangs, NeverBoth, OneCause, OneWanted};
+ghost use Rattle.wanted_locale.specs.Laws.{PrintedIsWanted};
+
+use language_tags::texts_and_tags;
+use unic_langid_impl::laws::id_determines;
 
 /// A text asks for one locale at most, has one cause at most, and never both.
 pub fn texts_and_locales()
     ensures one { OneWanted }
     ensures one_cause { OneCause }
     ensures never_both { NeverBoth }
-{}
+{
+    texts_and_tags();
+    id_determines();
+}
+
+/// Over an empty registry a printed locale without subdivision is the locale that it asks
+/// for, and a tag has no canonical form exactly where it isn't whole and has two extlangs or more.
+pub fn over_an_empty_registry()
+    ensures printed { PrintedIsWanted }
+    ensures canonical { CanonicalByExtlangs }
+{
+    texts_and_tags();
+}

@@ -10,17 +10,19 @@
 //! assert_eq!(locale, DataLocale::try_from_str("en")?);
 //! ```
 //!
-//! - `wanted`: the locale of a tag.
+//! - `tag`: [`wanted`], the locale of a tag.
 //! - `tables`: [`Tables`], what tags and locales are looked up in.
+//! - `subtags`: an identifier's subtags as those of a locale.
 //! - `error`: [`TagCause`], why a tag has no locale.
 //! - `laws`: laws of wanted locales, for contracts above.
 #![tactic(auto)]
 
 mod error;
 pub mod laws;
+mod subtags;
 mod tables;
-mod wanted;
+mod tag;
 
 pub use error::TagCause;
 pub use tables::Tables;
-pub use wanted::wanted;
+pub use tag::wanted;
