@@ -1,4 +1,3 @@
-pub mod OneFault
 pub mod OneFront
 pub mod OneAnswer
 pub mod AnyCase
@@ -6,3 +5,4 @@ pub mod TwoExtlangs
 pub mod EmptyRegistry
 pub mod PrintedText
 pub mod PrintedLocale
+pub mod Answering

@@ -20,7 +20,6 @@ use Rattle.wanted_locale.specs.Laws.{NeverBoth, OneCause, OneWanted}
 use Rattle.wanted_locale.specs.Wanted.{HasCanon, HasFront, HasIdentifier, IsShort, IsTagCause, IsWantedOf, locale_of, long_language, no_canon, no_identifier, no_tag}
 use Rattle.wanted_locale.specs.declared.error.TagCause.{TagCause}
 use Rattle.wanted_locale.specs.declared.error.TagCause.TheVariants.{Parse, Identifier as NoIdentifier}
-use Rattle.wanted_locale.proofs.OneFault.{one_fault}
 use Rattle.wanted_locale.proofs.OneFront.{OneTag, canon_front, front_text}
 
 -- ---- of an identifier
@@ -62,7 +61,11 @@ identifier_fault front (outer.ParserError parser.InvalidSubtag) (outer.ParserErr
 abbrev pub TagOrFault : Type 0
 TagOrFault = (text : List ℕ) (g : Tag) (fault : ParseError) → IsTagOf text g → ¬ (IsFaultOf text fault)
 
-module _ (one : OneTag) (never : TagOrFault) (ids : IdDetermines) (R : Tables) (text : List ℕ) where
+-- a text has one fault at most
+abbrev pub OneTextFault : Type 0
+OneTextFault = (text : List ℕ) (f g : ParseError) → IsFaultOf text f → IsFaultOf text g → f ≡ g
+
+module _ (one : OneTag) (one_fault : OneTextFault) (never : TagOrFault) (ids : IdDetermines) (R : Tables) (text : List ℕ) where
   -- the canonical forms of a text have one front, or there is none of them
   same_canon : (r s : Option Tag) → HasCanon R text r → HasCanon R text s → front_text r ≡ front_text s
   same_canon r s a b =
@@ -135,13 +138,13 @@ module _ (one : OneTag) (never : TagOrFault) (ids : IdDetermines) (R : Tables) (
       absurd (identifier_not_fault i front g h k other v)
   cause_one c d (long_language h long is) (long_language k other so) = is ∙ sym so
 
-module _ (one : OneTag) (never : TagOrFault) (ids : IdDetermines) where
+module _ (one : OneTag) (one_fault : OneTextFault) (never : TagOrFault) (ids : IdDetermines) where
   -- the laws, as they are stated
   pub OneWanted-holds : OneWanted
-  OneWanted-holds R text = wanted_one one never ids R text
+  OneWanted-holds R text = wanted_one one one_fault never ids R text
 
   pub OneCause-holds : OneCause
-  OneCause-holds R text = cause_one one never ids R text
+  OneCause-holds R text = cause_one one one_fault never ids R text
 
   pub NeverBoth-holds : NeverBoth
-  NeverBoth-holds R text = wanted_no_cause one never ids R text
+  NeverBoth-holds R text = wanted_no_cause one one_fault never ids R text

@@ -3,6 +3,7 @@
 use Rattle.std.specs.Prelude.{◌≡◌, ◌↔◌, ◌≤◌, ℕ, List, [], length, None}
 use Rattle.icu_locale_core.specs.Locale.{IsLocale, Locale, print}
 use Rattle.language_tags.specs.declared.error.ValidationError.TheVariants.{MultipleExtendedLanguageSubtags}
+use Rattle.language_tags.specs.Laws.{AnswerAlike}
 use Rattle.language_tags_grammar.specs.Tag.{Parts, Plain}
 use Rattle.language_tags_grammar.specs.TagOf.{IsTagOf}
 use Rattle.language_tags_registry.specs.Registry.{Tables, tables_at}
@@ -36,3 +37,13 @@ CanonicalByExtlangs =
     (text : List ℕ) →
     (IsTagCause empty_registry text (Canonical MultipleExtendedLanguageSubtags)
     ↔ ((p : Parts) × IsTagOf text (Plain p) × (2 ≤ length p.extlangs)))
+
+-- over registries that answer each key alike a text asks for the same locale
+abbrev pub WantedGoesByAnswers : Type 0
+WantedGoesByAnswers =
+    (R S : Tables) (text : List ℕ) (l : Locale) → AnswerAlike R S → IsWantedOf R text l → IsWantedOf S text l
+
+-- or has the same cause
+abbrev pub CauseGoesByAnswers : Type 0
+CauseGoesByAnswers =
+    (R S : Tables) (text : List ℕ) (cause : TagCause) → AnswerAlike R S → IsTagCause R text cause → IsTagCause S text cause

@@ -1,8 +1,10 @@
 //! Laws of wanted locales, for contracts that cite them. Each function does nothing: its contract
 //! is the law.
-ghost use Rattle.wanted_locale.specs.Laws.{CanonicalByExtlangs, NeverBoth, OneCause, OneWanted};
-ghost use Rattle.wanted_locale.specs.Laws.{PrintedIsWanted};
+ghost use Rattle.wanted_locale.specs.Laws.{CanonicalByExtlangs, CauseGoesByAnswers, NeverBoth};
+ghost use Rattle.wanted_locale.specs.Laws.{OneCause, OneWanted, PrintedIsWanted};
+ghost use Rattle.wanted_locale.specs.Laws.{WantedGoesByAnswers};
 
+use language_tags::laws::canonical_form_goes_by_answers;
 use language_tags::texts_and_tags;
 use unic_langid_impl::laws::id_determines;
 
@@ -23,4 +25,12 @@ pub fn over_an_empty_registry()
     ensures canonical { CanonicalByExtlangs }
 {
     texts_and_tags();
+}
+
+/// What a text asks for is the same over registries that answer each key alike.
+pub fn wanted_goes_by_answers()
+    ensures locale { WantedGoesByAnswers }
+    ensures cause { CauseGoesByAnswers }
+{
+    canonical_form_goes_by_answers();
 }
