@@ -1,5 +1,6 @@
 pub mod OneFront
 pub mod OneAnswer
+pub mod LeastVariant
 pub mod AnyCase
 pub mod TwoExtlangs
 pub mod EmptyRegistry

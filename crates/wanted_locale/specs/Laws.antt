@@ -1,13 +1,17 @@
--- Laws of wanted locales, as statements: a text asks for one locale or has one cause, never both; and what texts ask for over
--- an empty registry.
-use Rattle.std.specs.Prelude.{◌≡◌, ◌↔◌, ◌≤◌, ℕ, List, [], length, None}
+-- Laws of wanted locales, as statements: a text asks for one locale or has one cause, never both; which variant is kept; and
+-- what texts ask for over an empty registry.
+use Rattle.std.specs.Prelude.{◌≡◌, ◌≢◌, ◌↔◌, ◌≤◌, ℕ, List, [], length, Some, None}
+use Rattle.std.specs.List.{Contains}
+use Rattle.std.specs.declared.cmp.Ordering.TheVariants.{Less}
 use Rattle.icu_locale_core.specs.Locale.{IsLocale, Locale, print}
 use Rattle.language_tags.specs.declared.error.ValidationError.TheVariants.{MultipleExtendedLanguageSubtags}
 use Rattle.language_tags.specs.Laws.{AnswerAlike}
 use Rattle.language_tags_grammar.specs.Tag.{Parts, Plain}
 use Rattle.language_tags_grammar.specs.TagOf.{IsTagOf}
 use Rattle.language_tags_registry.specs.Registry.{Tables, tables_at}
-use Rattle.wanted_locale.specs.Wanted.{IsWantedOf, IsTagCause}
+use Rattle.unic_langid_impl.specs.Identifier.{Identifier, text_cmp}
+use Rattle.unic_langid_impl.specs.Reading.{id_of}
+use Rattle.wanted_locale.specs.Wanted.{IsWantedOf, IsTagCause, least}
 use Rattle.wanted_locale.specs.declared.error.TagCause.{TagCause}
 use Rattle.wanted_locale.specs.declared.error.TagCause.TheVariants.{Canonical}
 
@@ -22,6 +26,17 @@ OneCause = (R : Tables) (text : List ℕ) (c d : TagCause) → IsTagCause R text
 -- and none where it asks for a locale
 abbrev pub NeverBoth : Type 0
 NeverBoth = (R : Tables) (text : List ℕ) (l : Locale) (c : TagCause) → IsWantedOf R text l → ¬ (IsTagCause R text c)
+
+-- this text stands among some, and none of them is less
+pub record IsLeastOf (texts : List (List ℕ)) (least_text : List ℕ) : Type 0 where
+  pub stands : Contains texts least_text
+  pub none_less : (text : List ℕ) → Contains texts text → text_cmp text least_text ≢ Less
+
+-- of the variants of an identifier that is read, the one that is kept is the least
+abbrev pub LeastIsKept : Type 0
+LeastIsKept =
+    (text : List ℕ) (i : Identifier) (kept : List ℕ) → id_of text i → least i.variants ≡ Some kept
+    → IsLeastOf i.variants kept
 
 -- a registry without entries
 abbrev pub empty_registry : Tables

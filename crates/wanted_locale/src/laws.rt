@@ -1,7 +1,7 @@
 //! Laws of wanted locales, for contracts that cite them. Each function does nothing: its contract
 //! is the law.
-ghost use Rattle.wanted_locale.specs.Laws.{CanonicalByExtlangs, CauseGoesByAnswers, NeverBoth};
-ghost use Rattle.wanted_locale.specs.Laws.{OneCause, OneWanted, PrintedIsWanted};
+ghost use Rattle.wanted_locale.specs.Laws.{CanonicalByExtlangs, CauseGoesByAnswers, LeastIsKept};
+ghost use Rattle.wanted_locale.specs.Laws.{NeverBoth, OneCause, OneWanted, PrintedIsWanted};
 ghost use Rattle.wanted_locale.specs.Laws.{WantedGoesByAnswers};
 
 use language_tags::laws::canonical_form_goes_by_answers;
@@ -17,6 +17,11 @@ pub fn texts_and_locales()
     texts_and_tags();
     id_determines();
 }
+
+/// Of several variants the least is kept.
+pub fn least_is_kept()
+    ensures { LeastIsKept }
+{}
 
 /// Over an empty registry a printed locale without subdivision is the locale that it asks
 /// for, and a tag has no canonical form exactly where it isn't whole and has two extlangs or more.
