@@ -1,2 +1,4 @@
 mod Lines
+mod OneTables
+mod SameRows
 mod Written
