@@ -1,4 +1,6 @@
 mod Lines
+mod OneAnswer
+mod OneRendering
 mod OneTables
 mod SameRows
 mod Written

@@ -85,3 +85,21 @@ module _ (Line : Request → List ℕ → Type 0) (Fault : Request → RequestCa
         let same : i ≡ j = one_stop qs i j c d s t h g in
         let e = stops_once qs i j c d s t same h g in
         (is ∙ ap₂ Refused same e.0 ∙ sym also, e.1)
+
+-- requests are answered alike by lines and faults that hold where others do
+module _ (Line More : Request → List ℕ → Type 0) (Fault Other : Request → RequestCause → Type 0)
+         (line : (q : Request) (text : List ℕ) → Line q text → More q text)
+         (fault : (q : Request) (cause : RequestCause) → Fault q cause → Other q cause) where
+  pub lines_along : (qs : List Request) (text : List ℕ) → AreLines Line Fault qs text → AreLines More Other qs text
+  lines_along [] text h = h
+  lines_along (q ∷ qs) text h = (h.0, h.1, line q h.0 h.2, lines_along qs h.1 h.3, h.4)
+
+  pub answered_along : (qs : List Request) (status : Status) (text : List ℕ) → AreAnswered Line Fault qs status text → AreAnswered More Other qs status text
+  answered_along qs status text (all h is) = all (lines_along qs text h) is
+  answered_along qs status text (up_to {i = i} {cause = c} h is) =
+      up_to (record {
+        request = h.request;
+        request_is = h.request_is;
+        before = lines_along (take i qs) text h.before;
+        fault = fault h.request c h.fault;
+      }) is
