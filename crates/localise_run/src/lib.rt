@@ -13,7 +13,7 @@
 //! assert_eq!(out.as_str(), "Salut\n");
 //! ```
 //!
-//! - `running`: [`run`], from words and a source to a status.
+//! - `running`: [`run`], from words and a source to a status, and [`run_and_flush`], over a writer.
 //! - `command`: [`Command`], what words ask for.
 //! - `prepare`: what all commands do first: the document, its tables, its bundles.
 //! - `render`, `walk`, `generate`: what each command makes of a document's requests.
@@ -37,5 +37,5 @@ pub use command::Command;
 pub use fault_line::write_fault_line;
 pub use localise_document::{Field, Section, ShapePlace};
 
-pub use running::run;
+pub use running::{run, run_and_flush};
 pub use status::{RequestCause, Status, TableCause};

@@ -5,7 +5,7 @@ ghost use Rattle.localise_run.specs.Causes.{status_of_reading};
 ghost use Rattle.localise_run.specs.Classes.{ComesAtEnd, IsFailure, IsOfBytes, class_of};
 ghost use Rattle.localise_run.specs.Commands.{AreNoCommand, IsCommand};
 ghost use Rattle.localise_run.specs.FaultLines.{IsReported, fault_line};
-ghost use Rattle.localise_run.specs.Run.{AreRead, Appended, Gives, Runs, written};
+ghost use Rattle.localise_run.specs.Run.{AreRead, Appended, Gives, Runs, RunsAndFlushes, written};
 ghost use Rattle.reading.specs.Reading.{IsReadToEnd, most_bytes};
 ghost use Rattle.writeable_core.specs.Sink.{Rose};
 
@@ -18,7 +18,9 @@ use localise::Localiser;
 use localise_document::{Document, read_document};
 use reading::{ReadError, read_all};
 use std::alloc::Global;
+use std::io::Write;
 use writeable_core::{Sink, Source};
+use writeable_sinks::StdSink;
 
 /// Runs the command that the words are over a document that the source gives, appends its lines to the
 /// output, and tells of each answer but `Done` on the second output.
@@ -63,14 +65,67 @@ pub fn run<S: Source, O: Sink, E: Sink>(
     ensures told { result ≢ Status.Done
         → IsReported E.took E.faults E.takes_memory err.old (fault_line result) err.new }
 {
-    let status = match Command::of_words(words) {
-        Some(command) => run_command(alloc, command, source, out),
-        None => Status::BadWords,
+    let status = run_words(alloc, words, source, out);
+    report(status, err);
+    status
+}
+
+/// Runs over a writer that may hold back what it takes, and flushes it at the end. Where that fails
+/// the answer is `WriteFault`, whatever the run's was.
+pub fn run_and_flush<S: Source, W: Write, E: Sink>(
+    alloc: Global,
+    words: &[String],
+    source: &mut S,
+    writer: W,
+    err: &mut E,
+) -> Status
+    ensures runs { (command : Command) → IsCommand words.now command → RunsAndFlushes W.contents
+        command (S.left source.old) (S.faults source.old) (S.faults source.new) writer result }
+    ensures silent { result ≡ Status.Done → err.new ≡ err.old }
+    ensures told { result ≢ Status.Done
+        → IsReported E.took E.faults E.takes_memory err.old (fault_line result) err.new }
+{
+    let mut out = StdSink::new(writer);
+    let answer = run_words(alloc, words, source, &mut out);
+    let status = match out.into_inner().flush() {
+        Ok(()) => answer,
+        Err(_) => Status::WriteFault,
     };
+    report(status, err);
+    status
+}
+
+/// Tells of each answer but `Done`. No answer of the sink changes the status.
+fn report<E: Sink>(status: Status, err: &mut E)
+    ensures silent { status ≡ Status.Done → err.new ≡ err.old }
+    ensures told { status ≢ Status.Done
+        → IsReported E.took E.faults E.takes_memory err.old (fault_line status) err.new }
+{
     if status != Status::Done {
         let _ = write_fault_line(&status, err);
     }
-    status
+}
+
+/// Runs the command that the words are, if they are one.
+fn run_words<S: Source, O: Sink>(
+    alloc: Global,
+    words: &[String],
+    source: &mut S,
+    out: &mut O,
+) -> Status
+    ensures bad_words { (result ≡ Status.BadWords) ↔ AreNoCommand words.now }
+    ensures unread { result ≡ Status.BadWords → (source.new ≡ source.old) × (out.new ≡ out.old) }
+    ensures runs { (command : Command) → IsCommand words.now command
+        → Runs O.took command (S.left source.old) (S.faults source.old) (S.faults source.new)
+        (written O.faults out.old out.new) (class_of result) result }
+    ensures read_to_end { ComesAtEnd result
+        → IsReadToEnd S.left S.ended S.faults source.old source.new }
+    ensures no_fault { result ≡ Status.TooLong → S.faults source.new ≡ S.faults source.old }
+{
+    match Command::of_words(words) {
+        Some(command) => run_command(alloc, command, source, out),
+        None => Status::BadWords,
+    }
 }
 
 /// Reads a source to its end, and runs a command over its bytes.
