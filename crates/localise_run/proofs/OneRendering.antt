@@ -12,11 +12,12 @@ use Rattle.localise.specs.Laws as localise
 use Rattle.localise.specs.Meaning.{Meaning}
 use Rattle.localise_run.proofs.Lines.{answered_along, lines_along, one_answered, one_lines}
 use Rattle.localise_run.specs.Generating.{AreCounted, AreGenerated, AreNumbers, AreVisited, Visits, all, at_most_64_bits, refused, three_lines}
-use Rattle.localise_run.specs.Rendering.{AreRendered, HasTagCause, IsLine, IsLineFault, Wants, in_tag, in_walk, line_of}
-use Rattle.localise_run.specs.Requests.{AreLines}
+use Rattle.localise_run.specs.Rendering.{AreRendered, IsLine, IsLineFault, in_tag, in_walk}
+use Rattle.localise_run.specs.Requests.{line_of}
 use Rattle.localise_run.specs.Requests as requests
 use Rattle.localise_run.specs.Walking.{AreWalked, IsWalkFault, IsWalkLine}
 use Rattle.localise_run.specs.Walking as walking
+use Rattle.localise_run.specs.Wanting.{HasTagCause, Wants}
 use Rattle.localise_run.specs.declared.status.RequestCause.{RequestCause}
 use Rattle.localise_run.specs.declared.status.RequestCause.TheVariants.{Tag}
 use Rattle.localise_run.specs.declared.status.Status.{Status}

@@ -5,8 +5,9 @@ use Rattle.icu_list.specs.Patterns.{Patterns}
 use Rattle.icu_locale_core.specs.Locale.{Locale}
 use Rattle.localise.specs.Chosen.{Answer, Answers}
 use Rattle.localise.specs.Meaning.{Meaning}
-use Rattle.localise_run.specs.Rendering.{AreRendered, IsLine, IsLineFault, Wants, line_of}
-use Rattle.localise_run.specs.Requests.{AreLines}
+use Rattle.localise_run.specs.Rendering.{AreRendered, IsLine, IsLineFault}
+use Rattle.localise_run.specs.Requests.{AreLines, line_of}
+use Rattle.localise_run.specs.Wanting.{Wants}
 use Rattle.localise_run.specs.declared.generate.Counted.{Counted}
 use Rattle.localise_run.specs.declared.status.Status.{Status}
 use Rattle.localise_run.specs.declared.status.Status.TheVariants.{Done}

@@ -10,4 +10,5 @@ pub mod Requests
 pub mod Run
 pub mod Tables
 pub mod Walking
+pub mod Wanting
 pub mod Writing

@@ -1,28 +1,16 @@
 -- `render`: a localised line for each request.
-use Rattle.std.specs.Prelude.{◌≡◌, ℕ, List, [], ◌∷◌, ◌++◌, encode_utf8_all}
+use Rattle.std.specs.Prelude.{◌≡◌, ℕ, List}
 use Rattle.icu_list.specs.Patterns.{Patterns}
 use Rattle.icu_locale_core.specs.Locale.{Locale}
 use Rattle.localise.specs.Chosen.{ComesRound, IsLocalised}
 use Rattle.localise.specs.Meaning.{Meaning}
-use Rattle.localise_run.specs.Requests.{AreAnswered, BeginLines}
+use Rattle.localise_run.specs.Requests.{AreAnswered, BeginLines, line_of}
+use Rattle.localise_run.specs.Wanting.{HasTagCause, Wants}
 use Rattle.localise_run.specs.declared.status.RequestCause.{RequestCause}
-use Rattle.localise_run.specs.declared.status.RequestCause.TheVariants.{Tag, ChainLoops}
+use Rattle.localise_run.specs.declared.status.RequestCause.TheVariants.{ChainLoops}
 use Rattle.localise_run.specs.declared.status.Status.{Status}
 use Rattle.localise_texts.specs.declared.request.Request.{Request}
-use Rattle.wanted_locale.specs.Wanted.{IsWantedOf, IsTagCause}
 use Rattle.wanted_locale.specs.declared.tables.Tables.{Tables}
-
--- a text in bytes asks for a locale
-abbrev pub Wants : Tables → Request → Locale → Type 0
-Wants T q l = IsWantedOf T.registry (encode_utf8_all q.tag) l
-
--- a request's tag has no locale
-abbrev pub HasTagCause : Tables → Request → RequestCause → Type 0
-HasTagCause T q cause = (c : _) × IsTagCause T.registry (encode_utf8_all q.tag) c × (cause ≡ Tag c)
-
--- a text and a line feed
-abbrev pub line_of : List ℕ → List ℕ
-line_of text = text ++ 10 ∷ []
 
 module _ (T : Tables) (bundles : List Meaning) (root : Patterns) where
   -- the line of a request: its localised text

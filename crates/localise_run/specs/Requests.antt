@@ -5,6 +5,10 @@ use Rattle.localise_run.specs.declared.status.Status.{Status}
 use Rattle.localise_run.specs.declared.status.Status.TheVariants.{Done, Request as Refused}
 use Rattle.localise_texts.specs.declared.request.Request.{Request}
 
+-- a text and a line feed
+abbrev pub line_of : List ℕ → List ℕ
+line_of text = text ++ 10 ∷ []
+
 -- `Line` says which line a request gets, `Fault` why it gets none
 module _ (Line : Request → List ℕ → Type 0) (Fault : Request → RequestCause → Type 0) where
   -- the lines of requests, one behind the other

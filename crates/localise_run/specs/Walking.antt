@@ -3,8 +3,8 @@ use Rattle.std.specs.Prelude.{◌≡◌, ℕ, List}
 use Rattle.fallback_chain.specs.Chain.{EndsAt, chain_text}
 use Rattle.icu_locale_core.specs.Locale.{Locale}
 use Rattle.icu_locale_fallback.specs.Walk.{Repeats}
-use Rattle.localise_run.specs.Rendering.{HasTagCause, Wants, line_of}
-use Rattle.localise_run.specs.Requests.{AreAnswered, BeginLines}
+use Rattle.localise_run.specs.Requests.{AreAnswered, BeginLines, line_of}
+use Rattle.localise_run.specs.Wanting.{HasTagCause, Wants}
 use Rattle.localise_run.specs.declared.status.RequestCause.{RequestCause}
 use Rattle.localise_run.specs.declared.status.RequestCause.TheVariants.{ChainLoops}
 use Rattle.localise_run.specs.declared.status.Status.{Status}

@@ -5,8 +5,9 @@ ghost use Rattle.localise.specs.Kept.{AreAlike};
 ghost use Rattle.localise.specs.Meaning.{Meaning};
 ghost use Rattle.localise.specs.Views.{meanings, root_of, tables_of};
 ghost use Rattle.localise_run.specs.Causes.{status_of_sink, status_of_tag};
-ghost use Rattle.localise_run.specs.Rendering.{AreRendered, BeginRendered, IsLine, IsLineFault, Wants};
+ghost use Rattle.localise_run.specs.Rendering.{AreRendered, BeginRendered, IsLine, IsLineFault};
 ghost use Rattle.localise_run.specs.Run.{Gives, written};
+ghost use Rattle.localise_run.specs.Wanting.{Wants};
 ghost use Rattle.localise_run.specs.Writing.{FailsLine, TookLine};
 
 use crate::tags::{LastTag, locale_of};

@@ -1,8 +1,8 @@
 //! `walk`: for each request the locales of its whole walk.
 
 ghost use Rattle.std.specs.Prelude.{IfErr, OnOk};
-ghost use Rattle.localise_run.specs.Rendering.{Wants};
 ghost use Rattle.localise_run.specs.Run.{Gives, written};
+ghost use Rattle.localise_run.specs.Wanting.{Wants};
 ghost use Rattle.localise_run.specs.Walking.{AreWalked, BeginWalked, IsWalkFault, IsWalkLine};
 ghost use Rattle.localise_run.specs.Writing.{FailsLine, TookLine};
 
