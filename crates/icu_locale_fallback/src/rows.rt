@@ -1,4 +1,4 @@
-ghost use Rattle.std.specs.Prelude.{MatchOption};
+ghost use Rattle.std.specs.Prelude.{◌≡◌, MatchOption};
 ghost use Rattle.std.specs.FinMap.{IsAntisymmetric};
 ghost use Rattle.std.specs.Option.{SomeIff};
 ghost use Rattle.icu_locale_core.specs.Shapes.{IsLanguage, IsRegion, IsScript};
