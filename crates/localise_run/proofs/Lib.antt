@@ -3,4 +3,5 @@ mod OneAnswer
 mod OneRendering
 mod OneTables
 mod SameRows
+mod TagBytes
 mod Written

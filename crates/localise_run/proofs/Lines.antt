@@ -1,13 +1,19 @@
 -- The lines of requests, and the one answer of them.
-use Rattle.std.proofs.Common.{◌≡◌, ◌≢◌, ℕ, zero, suc, ◌+◌, ◌<◌, ◌≤◌, List, [], ◌∷◌, ◌++◌, Option, Some, None, length, take, get_or, refl, sym, ap, ap₂, ◌∙◌, subst, arith, ◌⊎◌, inl, inr, append_assoc, append-nil}
+use Rattle.std.proofs.Common.{◌≡◌, ℕ, zero, suc, ◌+◌, ◌<◌, List, [], ◌∷◌, ◌++◌, Some, length, take, get_or, refl, sym, ap, ap₂, ◌∙◌, subst, arith, inl, inr, append_assoc, append-nil}
 use Rattle.std.specs.Prelude.{slice_get}
 use Rattle.std.proofs.lemmas.Bool.{cases_lt}
 use Rattle.std.proofs.lemmas.List.{take_more}
 use Rattle.localise_run.specs.Requests.{AreAnswered, AreLines, StopsAt, all, up_to}
 use Rattle.localise_run.specs.declared.status.RequestCause.{RequestCause}
 use Rattle.localise_run.specs.declared.status.Status.{Status}
-use Rattle.localise_run.specs.declared.status.Status.TheVariants.{Done, Request as Refused}
+use Rattle.localise_run.specs.declared.status.Status.TheVariants.{Request as Refused}
 use Rattle.localise_texts.specs.declared.request.Request.{Request}
+
+-- what stands at a place of a list is there
+pub got : (qs : List Request) (i : ℕ) (q : Request) → i < length qs → q ≡ get_or qs i q → slice_get qs i ≡ Some q
+got [] i q within is = absurd (omega (arith, within))
+got (p ∷ qs) zero q within is = ap Some (sym is)
+got (p ∷ qs) (suc i) q within is = got qs i q (omega (arith, within)) is
 
 module _ (Line : Request → List ℕ → Type 0) (Fault : Request → RequestCause → Type 0) where
   -- a line behind others
