@@ -1,6 +1,6 @@
 -- Which text a request gets: the walk over locales (UTS 35, locale inheritance), and the first that translates.
-use Rattle.std.specs.Prelude.{◌≡◌, ◌≢◌, ◌≤◌, ◌<◌, ℕ, suc, ◌+◌, List, [], ◌∷◌, Option, Some, None, ◌==◌, if◌then◌else◌}
-use Rattle.std.specs.Option.{option_or, option_map}
+use Rattle.std.specs.Prelude.{◌≡◌, ◌≢◌, ◌≤◌, ◌<◌, ℕ, ◌+◌, List, [], ◌∷◌, Option, Some, None, if◌then◌else◌}
+use Rattle.std.specs.Option.{option_map}
 use Rattle.gettext.specs.Messages.{form, key_of, own_words}
 use Rattle.icu_list.specs.Joined.{joined}
 use Rattle.icu_list.specs.Patterns.{Patterns}
@@ -31,7 +31,7 @@ numbered i b f = option_map (λ f. record { bundle = i; number = f.0; text = f.1
 abbrev pub translation_from : ℕ → List Meaning → Request → Locale → Option Translation
 translation_from i [] q locale = None
 translation_from i (b ∷ bs) q locale =
-    if same_locale b.locale locale then numbered i b (form_for b q) else translation_from (suc i) bs q locale
+    if same_locale b.locale locale then numbered i b (form_for b q) else translation_from (i + 1) bs q locale
 
 -- the translation of a request in a locale
 abbrev pub translation : List Meaning → Request → Locale → Option Translation
@@ -68,26 +68,34 @@ pub record Answer : Type 0 where
   pub locale : Locale
   pub visited : ℕ
 
--- a form in its bundle's patterns, or the request's own words in the root's; none where the walk comes round
-abbrev pub answer_of : Tables → Patterns → Locale → Request → Outcome → Option Answer
-answer_of F root l q (Chosen k t) =
-    Some (record {
+-- a form in its bundle's patterns, in a locale behind so many steps
+abbrev pub translated : Locale → ℕ → Translation → Answer
+translated l k t =
+    record {
       words = t.text;
       patterns = t.patterns;
       bundle = Some t.bundle;
       form_number = Some t.number;
-      locale = at F l k;
+      locale = l;
       visited = k + 1;
-    })
-answer_of F root l q (Own k) =
-    Some (record {
+    }
+
+-- the request's own words in the root's patterns
+abbrev pub untranslated : Patterns → Request → Locale → ℕ → Answer
+untranslated root q l k =
+    record {
       words = own_words q.count q.singular q.plural;
       patterns = root;
       bundle = None;
       form_number = None;
-      locale = at F l k;
+      locale = l;
       visited = k + 1;
-    })
+    }
+
+-- the answer by an outcome; none where the walk comes round
+abbrev pub answer_of : Tables → Patterns → Locale → Request → Outcome → Option Answer
+answer_of F root l q (Chosen k t) = Some (translated (at F l k) k t)
+answer_of F root l q (Own k) = Some (untranslated root q (at F l k) k)
 answer_of F root l q Loops = None
 
 -- the answer to a request for a wanted locale

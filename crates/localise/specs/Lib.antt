@@ -1,5 +1,11 @@
 pub mod Bundles
 pub mod Chosen
+pub mod Given
+pub mod GivenLaws
 pub mod Kept
 pub mod Lists
 pub mod Meaning
+pub mod Places
+pub mod Read
+pub mod Stops
+pub mod Views

@@ -1,0 +1,9 @@
+pub mod Along
+pub mod Asking
+pub mod BundleReading
+pub mod GivenText
+pub mod Keeping
+pub mod ListReading
+pub mod Orders
+pub mod Outcomes
+pub mod Placing
