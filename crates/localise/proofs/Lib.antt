@@ -7,3 +7,6 @@ pub mod ListReading
 pub mod Orders
 pub mod Outcomes
 pub mod Placing
+pub mod AlongTables
+pub mod OneMeaning
+pub mod OneOutcome

@@ -3,6 +3,7 @@ pub mod Chosen
 pub mod Given
 pub mod GivenLaws
 pub mod Kept
+pub mod Laws
 pub mod Lists
 pub mod Meaning
 pub mod Places

@@ -29,6 +29,7 @@ mod bundles;
 mod error;
 mod found;
 mod key;
+pub mod laws;
 mod lists;
 mod localiser;
 mod walk;
