@@ -4,9 +4,9 @@ use Rattle.std.specs.Prelude.{slice_get}
 use Rattle.std.proofs.lemmas.Bool.{cases_lt}
 use Rattle.std.proofs.lemmas.List.{take_more}
 use Rattle.localise_run.specs.Requests.{AreAnswered, AreLines, StopsAt, all, up_to}
-use Rattle.localise_run.specs.declared.status.RequestCause.{RequestCause}
-use Rattle.localise_run.specs.declared.status.Status.{Status}
-use Rattle.localise_run.specs.declared.status.Status.TheVariants.{Request as Refused}
+use Rattle.localise_status.specs.declared.status.RequestCause.{RequestCause}
+use Rattle.localise_status.specs.declared.status.Status.{Status}
+use Rattle.localise_status.specs.declared.status.Status.TheVariants.{Request as Refused}
 use Rattle.localise_texts.specs.declared.request.Request.{Request}
 
 -- what stands at a place of a list is there

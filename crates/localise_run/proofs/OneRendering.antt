@@ -18,10 +18,10 @@ use Rattle.localise_run.specs.Requests as requests
 use Rattle.localise_run.specs.Walking.{AreWalked, IsWalkFault, IsWalkLine}
 use Rattle.localise_run.specs.Walking as walking
 use Rattle.localise_run.specs.Wanting.{HasTagCause, Wants}
-use Rattle.localise_run.specs.declared.status.RequestCause.{RequestCause}
-use Rattle.localise_run.specs.declared.status.RequestCause.TheVariants.{Tag}
-use Rattle.localise_run.specs.declared.status.Status.{Status}
-use Rattle.localise_run.specs.declared.status.Status.TheVariants.{Done}
+use Rattle.localise_status.specs.declared.status.RequestCause.{RequestCause}
+use Rattle.localise_status.specs.declared.status.RequestCause.TheVariants.{Tag}
+use Rattle.localise_status.specs.declared.status.Status.{Status}
+use Rattle.localise_status.specs.declared.status.Status.TheVariants.{Done}
 use Rattle.localise_texts.specs.declared.request.Request.{Request}
 use Rattle.wanted_locale.specs.Laws as wanted
 use Rattle.wanted_locale.specs.declared.tables.Tables.{Tables}

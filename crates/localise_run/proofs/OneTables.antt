@@ -14,8 +14,8 @@ use Rattle.language_tags_registry.specs.declared.rows.RegistryRows.{RegistryRows
 use Rattle.localise_run.proofs.SameRows.{fallback_fault, fallback_tables, registry_fault, registry_tables}
 use Rattle.localise_document.specs.Contents.{Contents}
 use Rattle.localise_run.specs.Tables.{HasTables, IsTableFault, in_fallback, in_registry}
-use Rattle.localise_run.specs.declared.status.TableCause.{TableCause}
-use Rattle.localise_run.specs.declared.status.TableCause.TheVariants.{Registry, Fallback}
+use Rattle.localise_status.specs.declared.status.TableCause.{TableCause}
+use Rattle.localise_status.specs.declared.status.TableCause.TheVariants.{Registry, Fallback}
 use Rattle.wanted_locale.specs.declared.tables.Tables.{Tables}
 
 -- the laws of rows

@@ -5,7 +5,7 @@ use Rattle.std.specs.Str.{chars}
 use Rattle.std.proofs.lemmas.Str.{encodes-chars}
 use Rattle.icu_locale_core.specs.Locale.{Locale}
 use Rattle.localise_run.specs.Wanting.{HasTagCause, Wants}
-use Rattle.localise_run.specs.declared.status.RequestCause.TheVariants.{Tag}
+use Rattle.localise_status.specs.declared.status.RequestCause.TheVariants.{Tag}
 use Rattle.localise_texts.specs.declared.request.Request.{Request}
 use Rattle.wanted_locale.specs.Wanted.{IsTagCause, IsWantedOf}
 use Rattle.wanted_locale.specs.declared.error.TagCause.{TagCause}

@@ -6,10 +6,10 @@ use Rattle.localise_run.specs.Causes.{status_of_sink, status_of_tag}
 use Rattle.localise_run.specs.Requests.{AreAnswered, AreLines, BeginLines, all, up_to}
 use Rattle.localise_run.specs.Run.{Gives, TookFront, TookText, Written, written}
 use Rattle.localise_run.specs.Writing.{FailsLine, GetsNone, TookLineFront}
-use Rattle.localise_run.specs.declared.status.RequestCause.{RequestCause}
-use Rattle.localise_run.specs.declared.status.RequestCause.TheVariants.{Tag}
-use Rattle.localise_run.specs.declared.status.Status.{Status}
-use Rattle.localise_run.specs.declared.status.Status.TheVariants.{Done, BadWords, NotJson, Shape, Table, Bundle, DuplicateLocale, Root, Request as OfRequest, ReadFault, WriteFault, NoMemory, TooLong}
+use Rattle.localise_status.specs.declared.status.RequestCause.{RequestCause}
+use Rattle.localise_status.specs.declared.status.RequestCause.TheVariants.{Tag}
+use Rattle.localise_status.specs.declared.status.Status.{Status}
+use Rattle.localise_status.specs.declared.status.Status.TheVariants.{Done, BadWords, NotJson, Shape, Table, Bundle, DuplicateLocale, Root, Request as OfRequest, ReadFault, WriteFault, NoMemory, TooLong}
 use Rattle.localise_texts.specs.declared.request.Request.{Request}
 use Rattle.wanted_locale.specs.declared.error.TagCause.{TagCause}
 use Rattle.wanted_locale.specs.declared.error.TagCause.TheVariants as wanted

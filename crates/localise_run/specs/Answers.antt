@@ -14,9 +14,9 @@ use Rattle.localise_run.specs.Tables.{HasTables, IsTableFault}
 use Rattle.localise_run.specs.Walking.{AreWalked, BeginWalked}
 use Rattle.localise_run.specs.declared.command.Command.{Command}
 use Rattle.localise_run.specs.declared.command.Command.TheVariants.{Render, Walk, Generate}
-use Rattle.localise_run.specs.declared.status.Status.{Status}
-use Rattle.localise_run.specs.declared.status.Status.TheVariants as status
-use Rattle.localise_run.specs.declared.status.TableCause.{TableCause}
+use Rattle.localise_status.specs.declared.status.Status.{Status}
+use Rattle.localise_status.specs.declared.status.Status.TheVariants as status
+use Rattle.localise_status.specs.declared.status.TableCause.{TableCause}
 use Rattle.localise_texts.specs.declared.request.Request.{Request}
 use Rattle.reading.specs.Reading.{most_bytes}
 use Rattle.wanted_locale.specs.declared.tables.Tables.{Tables}

@@ -6,10 +6,10 @@ use Rattle.language_tags_registry.specs.declared.error.RegistryError.{RegistryEr
 use Rattle.language_tags_registry.specs.declared.error.RegistryError.TheVariants as tags
 use Rattle.localise_document.specs.declared.error.DocumentError.{DocumentError}
 use Rattle.localise_document.specs.declared.error.DocumentError.TheVariants as document
-use Rattle.localise_run.specs.declared.status.RequestCause.TheVariants as request
-use Rattle.localise_run.specs.declared.status.Status.{Status}
-use Rattle.localise_run.specs.declared.status.Status.TheVariants as status
-use Rattle.localise_run.specs.declared.status.TableCause.TheVariants as table
+use Rattle.localise_status.specs.declared.status.RequestCause.TheVariants as request
+use Rattle.localise_status.specs.declared.status.Status.{Status}
+use Rattle.localise_status.specs.declared.status.Status.TheVariants as status
+use Rattle.localise_status.specs.declared.status.TableCause.TheVariants as table
 use Rattle.reading.specs.declared.error.ReadError.{ReadError}
 use Rattle.reading.specs.declared.error.ReadError.TheVariants as unread
 use Rattle.wanted_locale.specs.declared.error.TagCause.{TagCause}

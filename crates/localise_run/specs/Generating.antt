@@ -9,8 +9,8 @@ use Rattle.localise_run.specs.Rendering.{AreRendered, IsLine, IsLineFault}
 use Rattle.localise_run.specs.Requests.{AreLines, line_of}
 use Rattle.localise_run.specs.Wanting.{Wants}
 use Rattle.localise_run.specs.declared.generate.Counted.{Counted}
-use Rattle.localise_run.specs.declared.status.Status.{Status}
-use Rattle.localise_run.specs.declared.status.Status.TheVariants.{Done}
+use Rattle.localise_status.specs.declared.status.Status.{Status}
+use Rattle.localise_status.specs.declared.status.Status.TheVariants.{Done}
 use Rattle.localise_texts.specs.declared.request.Request.{Request}
 use Rattle.wanted_locale.specs.declared.tables.Tables.{Tables}
 use Rattle.writeable_core.specs.Hint.{byte_length}

@@ -2,7 +2,7 @@
 use Rattle.std.specs.Prelude.{◌≡◌, ℕ, List}
 use Rattle.localise_run.specs.Answers.{Says}
 use Rattle.localise_run.specs.declared.command.Command.{Command}
-use Rattle.localise_run.specs.declared.status.Status.{Status}
+use Rattle.localise_status.specs.declared.status.Status.{Status}
 
 -- bytes have one answer to a command, and one text
 abbrev pub OneAnswer : Type 0

@@ -1,8 +1,6 @@
 pub mod Answers
 pub mod Causes
-pub mod Classes
 pub mod Commands
-pub mod FaultLines
 pub mod Generating
 pub mod Rendering
 pub mod Laws

@@ -6,9 +6,9 @@ use Rattle.localise.specs.Chosen.{ComesRound, IsLocalised}
 use Rattle.localise.specs.Meaning.{Meaning}
 use Rattle.localise_run.specs.Requests.{AreAnswered, BeginLines, line_of}
 use Rattle.localise_run.specs.Wanting.{HasTagCause, Wants}
-use Rattle.localise_run.specs.declared.status.RequestCause.{RequestCause}
-use Rattle.localise_run.specs.declared.status.RequestCause.TheVariants.{ChainLoops}
-use Rattle.localise_run.specs.declared.status.Status.{Status}
+use Rattle.localise_status.specs.declared.status.RequestCause.{RequestCause}
+use Rattle.localise_status.specs.declared.status.RequestCause.TheVariants.{ChainLoops}
+use Rattle.localise_status.specs.declared.status.Status.{Status}
 use Rattle.localise_texts.specs.declared.request.Request.{Request}
 use Rattle.wanted_locale.specs.declared.tables.Tables.{Tables}
 

@@ -1,8 +1,8 @@
 -- What requests are answered: a line each, up to the first that is refused.
 use Rattle.std.specs.Prelude.{◌≡◌, ℕ, List, [], ◌∷◌, ◌++◌, Some, slice_get, take}
-use Rattle.localise_run.specs.declared.status.RequestCause.{RequestCause}
-use Rattle.localise_run.specs.declared.status.Status.{Status}
-use Rattle.localise_run.specs.declared.status.Status.TheVariants.{Done, Request as Refused}
+use Rattle.localise_status.specs.declared.status.RequestCause.{RequestCause}
+use Rattle.localise_status.specs.declared.status.Status.{Status}
+use Rattle.localise_status.specs.declared.status.Status.TheVariants.{Done, Request as Refused}
 use Rattle.localise_texts.specs.declared.request.Request.{Request}
 
 -- a text and a line feed

@@ -1,10 +1,10 @@
 -- What a run does: which answer it gives, and what it appends.
 use Rattle.std.specs.Prelude.{◌≡◌, ◌⊎◌, ℕ, List, [], ◌++◌, Option, Some, IfSome}
 use Rattle.localise_run.specs.Answers.{Says, SaysFirst}
-use Rattle.localise_run.specs.Classes.{Class, Words, Reading, Refused, Answered, Writing, Memory, class_of}
+use Rattle.localise_status.specs.Classes.{Class, Words, Reading, Refused, Answered, Writing, Memory, class_of}
 use Rattle.localise_run.specs.declared.command.Command.{Command}
-use Rattle.localise_run.specs.declared.status.Status.{Status}
-use Rattle.localise_run.specs.declared.status.Status.TheVariants.{WriteFault}
+use Rattle.localise_status.specs.declared.status.Status.{Status}
+use Rattle.localise_status.specs.declared.status.Status.TheVariants.{WriteFault}
 use Rattle.writeable_core.specs.Sink.{Rose, TookPrefix}
 use Rattle.writeable_sinks.specs.StdSink.{Writes, Writing}
 

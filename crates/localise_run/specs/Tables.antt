@@ -7,8 +7,8 @@ use Rattle.language_tags_registry.specs.Faults as registry
 use Rattle.language_tags_registry.specs.declared.error.RegistryError.TheVariants as tags
 use Rattle.language_tags_registry.specs.declared.rows.RegistryRows.{RegistryRows}
 use Rattle.localise_document.specs.Contents.{Contents, registry_lists, fallback_lists}
-use Rattle.localise_run.specs.declared.status.TableCause.{TableCause}
-use Rattle.localise_run.specs.declared.status.TableCause.TheVariants.{Registry, Fallback}
+use Rattle.localise_status.specs.declared.status.TableCause.{TableCause}
+use Rattle.localise_status.specs.declared.status.TableCause.TheVariants.{Registry, Fallback}
 use Rattle.wanted_locale.specs.declared.tables.Tables.{Tables}
 
 -- rows with the document's lists

@@ -1,8 +1,8 @@
 -- The locale that a request's tag asks for, or why it asks for none.
 use Rattle.std.specs.Prelude.{◌≡◌, encode_utf8_all}
 use Rattle.icu_locale_core.specs.Locale.{Locale}
-use Rattle.localise_run.specs.declared.status.RequestCause.{RequestCause}
-use Rattle.localise_run.specs.declared.status.RequestCause.TheVariants.{Tag}
+use Rattle.localise_status.specs.declared.status.RequestCause.{RequestCause}
+use Rattle.localise_status.specs.declared.status.RequestCause.TheVariants.{Tag}
 use Rattle.localise_texts.specs.declared.request.Request.{Request}
 use Rattle.wanted_locale.specs.Wanted.{IsWantedOf, IsTagCause}
 use Rattle.wanted_locale.specs.declared.error.TagCause.{TagCause}

@@ -1,10 +1,10 @@
 -- Writing the line of one request.
 use Rattle.std.specs.Prelude.{◌≡◌, ◌⊎◌, ℕ, List}
-use Rattle.localise_run.specs.Classes.{Class, Words, Reading, Refused, Answered, Writing, Memory, class_of}
+use Rattle.localise_status.specs.Classes.{Class, Words, Reading, Refused, Answered, Writing, Memory, class_of}
 use Rattle.localise_run.specs.Run.{Written}
-use Rattle.localise_run.specs.declared.status.RequestCause.{RequestCause}
-use Rattle.localise_run.specs.declared.status.Status.{Status}
-use Rattle.localise_run.specs.declared.status.Status.TheVariants.{Request as OfRequest}
+use Rattle.localise_status.specs.declared.status.RequestCause.{RequestCause}
+use Rattle.localise_status.specs.declared.status.Status.{Status}
+use Rattle.localise_status.specs.declared.status.Status.TheVariants.{Request as OfRequest}
 use Rattle.localise_texts.specs.declared.request.Request.{Request}
 use Rattle.writeable_core.specs.Sink.{Rose, TookPrefix}
 

@@ -9,7 +9,7 @@ ghost use Rattle.localise.specs.Views.{meanings, root_of, tables_of};
 ghost use Rattle.localise_run.specs.Generating.{AreCounted, AreGenerated, AreNumbers, made, made_from, three_lines};
 ghost use Rattle.localise_run.specs.Rendering.{AreRendered, IsLine, IsLineFault};
 ghost use Rattle.localise_run.specs.Run.{Gives, written};
-ghost use Rattle.localise_run.specs.declared.status.Status.{Status as Ended};
+ghost use Rattle.localise_status.specs.declared.status.Status.{Status as Ended};
 ghost use Rattle.writeable_core.specs.Sink.{HasCause, TookPrefix};
 
 use crate::render::{of_sink, of_tag};

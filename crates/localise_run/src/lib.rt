@@ -17,25 +17,23 @@
 //! - `command`: [`Command`], what words ask for.
 //! - `prepare`: what all commands do first: the document, its tables, its bundles.
 //! - `render`, `walk`, `generate`: what each command makes of a document's requests.
-//! - `status`: [`Status`], how a run ended, and its code.
-//! - `fault_line`: the line that tells of a status.
 //! - `laws`: an input has one answer.
+//!
+//! Statuses and the lines that tell of them stand in `localise_status`; this crate passes them on.
 #![tactic(auto)]
 
 mod command;
-mod fault_line;
 mod generate;
 pub mod laws;
 mod prepare;
 mod render;
 mod running;
-mod status;
 mod tags;
 mod walk;
 
 pub use command::Command;
-pub use fault_line::write_fault_line;
-pub use localise_document::{Field, Section, ShapePlace};
+pub use localise_status::{
+    Field, RequestCause, Section, ShapePlace, Status, TableCause, write_fault_line,
+};
 
 pub use running::{run, run_and_flush};
-pub use status::{RequestCause, Status, TableCause};

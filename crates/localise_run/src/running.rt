@@ -2,9 +2,9 @@ ghost use Rattle.std.specs.Prelude.{◌≡◌, ◌≢◌, ◌≤◌, ◌↔◌, 
 ghost use Rattle.localise_document.specs.Contents.{Contents};
 ghost use Rattle.localise_run.specs.Answers.{IsAnswer, IsBegun, Says, SaysFirst};
 ghost use Rattle.localise_run.specs.Causes.{status_of_reading};
-ghost use Rattle.localise_run.specs.Classes.{ComesAtEnd, IsFailure, IsOfBytes, class_of};
+ghost use Rattle.localise_status.specs.Classes.{ComesAtEnd, IsFailure, IsOfBytes, class_of};
 ghost use Rattle.localise_run.specs.Commands.{AreNoCommand, IsCommand};
-ghost use Rattle.localise_run.specs.FaultLines.{IsReported, fault_line};
+ghost use Rattle.localise_status.specs.FaultLines.{IsReported, fault_line};
 ghost use Rattle.localise_run.specs.Run.{AreRead, Appended, Gives, Runs, RunsAndFlushes, written};
 ghost use Rattle.reading.specs.Reading.{IsReadToEnd, most_bytes};
 ghost use Rattle.writeable_core.specs.Sink.{Rose};

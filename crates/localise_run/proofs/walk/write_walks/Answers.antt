@@ -5,7 +5,7 @@ use Rattle.localise_run.proofs.TagBytes.{has_cause, wants}
 use Rattle.localise_run.proofs.Written.{wrote_failing, wrote_more, wrote_none, wrote_to_tag}
 use Rattle.localise_run.specs.Run.{Gives, written}
 use Rattle.localise_run.specs.Walking.{AreWalked, BeginWalked, IsWalkFault, IsWalkLine, in_tag}
-use Rattle.localise_run.specs.declared.status.Status.{Status}
+use Rattle.localise_status.specs.declared.status.Status.{Status}
 use Rattle.localise_run.proofs.walk.write_walks.Goals as goal
 
 pub returns-in-Err : goal.returns-in-Err

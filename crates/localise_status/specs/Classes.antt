@@ -1,7 +1,7 @@
 -- The classes of statuses, and the exit status of each.
 use Rattle.std.specs.Prelude.{ℕ}
-use Rattle.localise_run.specs.declared.status.Status.{Status}
-use Rattle.localise_run.specs.declared.status.Status.TheVariants.{Done, BadWords, NotJson, Shape, Table, Bundle, DuplicateLocale, Root, Request, ReadFault, WriteFault, NoMemory, TooLong}
+use Rattle.localise_status.specs.declared.status.Status.{Status}
+use Rattle.localise_status.specs.declared.status.Status.TheVariants.{Done, BadWords, NotJson, Shape, Table, Bundle, DuplicateLocale, Root, Request, ReadFault, WriteFault, NoMemory, TooLong}
 
 -- What a status is about: the words are no command; the source failed; the input has this answer, before any line or behind
 -- some; the output failed; or memory ran out.

@@ -1,5 +1,5 @@
 ghost use Rattle.std.specs.Prelude.{◌≡◌};
-ghost use Rattle.localise_run.specs.Classes.{code_of};
+ghost use Rattle.localise_status.specs.Classes.{code_of};
 
 use icu_list::DataError;
 use icu_locale_fallback::TableError;

@@ -14,12 +14,12 @@ use Rattle.localise.specs.declared.error.BundleCause.TheVariants as bundle
 use Rattle.localise_document.specs.Names.{section_name, field_name}
 use Rattle.localise_document.specs.declared.place.Field.TheVariants.{RegistryTable, FallbackTable}
 use Rattle.localise_document.specs.declared.place.ShapePlace.{ShapePlace}
-use Rattle.localise_run.specs.declared.status.RequestCause.{RequestCause}
-use Rattle.localise_run.specs.declared.status.RequestCause.TheVariants as request
-use Rattle.localise_run.specs.declared.status.Status.{Status}
-use Rattle.localise_run.specs.declared.status.Status.TheVariants.{Done, BadWords, NotJson, Shape, Table, Bundle, DuplicateLocale, Root, Request, ReadFault, WriteFault, NoMemory, TooLong}
-use Rattle.localise_run.specs.declared.status.TableCause.{TableCause}
-use Rattle.localise_run.specs.declared.status.TableCause.TheVariants as table
+use Rattle.localise_status.specs.declared.status.RequestCause.{RequestCause}
+use Rattle.localise_status.specs.declared.status.RequestCause.TheVariants as request
+use Rattle.localise_status.specs.declared.status.Status.{Status}
+use Rattle.localise_status.specs.declared.status.Status.TheVariants.{Done, BadWords, NotJson, Shape, Table, Bundle, DuplicateLocale, Root, Request, ReadFault, WriteFault, NoMemory, TooLong}
+use Rattle.localise_status.specs.declared.status.TableCause.{TableCause}
+use Rattle.localise_status.specs.declared.status.TableCause.TheVariants as table
 use Rattle.wanted_locale.specs.Words as wanted
 use Rattle.writeable_core.specs.Sink.{Rose, TookPrefix}
 

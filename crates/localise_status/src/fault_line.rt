@@ -1,13 +1,13 @@
 //! The line that tells of each answer but `Done`.
 
 ghost use Rattle.std.specs.Prelude.{◌≡◌, ◌++◌, OnOk, OnErr};
-ghost use Rattle.localise_run.specs.FaultLines.{bundle_text, fallback_text, fault_line, fault_text, numbered_text, place_text, registry_text, request_text, row_text};
+ghost use Rattle.localise_status.specs.FaultLines.{bundle_text, fallback_text, fault_line, fault_text, numbered_text, place_text, registry_text, request_text, row_text};
 ghost use Rattle.std.specs.Str.{chars};
 ghost use Rattle.writeable_core.specs.Sink.{HasCause, TookPrefix};
 
 use crate::{RequestCause, Status, TableCause};
 use icu_locale_fallback::TableError;
-use language_tags::RegistryError;
+use language_tags_registry::RegistryError;
 use localise::BundleCause;
 use localise_document::{Field, ShapePlace};
 use writeable_core::{Sink, SinkError, Writeable};
