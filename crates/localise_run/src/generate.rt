@@ -22,6 +22,7 @@ use writeable_core::{OwnedText, Sink, SinkError, TextList, Writeable};
 use writeable_sinks::CountSink;
 
 /// What is counted of made requests.
+#[derive(Clone, Copy)]
 pub(crate) struct Counted {
     requests: u32,
     bytes: u64,
@@ -137,21 +138,21 @@ fn write_counted<O: Sink>(counted: &Counted, out: &mut O) -> Result<(), SinkErro
         (three_lines counted.now.requests counted.now.bytes counted.now.visited) out.new) }
     ensures cause { HasCause (O.faults out.old) (O.faults out.new) (O.takes_memory out.old) result }
 {
-    write_number("requests ", counted.requests, out)?;
-    write_number("bytes ", counted.bytes, out)?;
-    write_number("visited ", counted.visited, out)
+    write_number("requests ", &counted.requests, out)?;
+    write_number("bytes ", &counted.bytes, out)?;
+    write_number("visited ", &counted.visited, out)
 }
 
 /// Writes a word, a number and a line feed.
 fn write_number<N: Writeable, O: Sink>(
     word: &str,
-    number: N,
+    number: &N,
     out: &mut O,
 ) -> Result<(), SinkError>
     ensures ok { OnOk result
-        (O.took out.old (chars word.now ++ (N.text number ++ 10 ∷ [])) out.new) }
+        (O.took out.old (chars word.now ++ (N.text number.now ++ 10 ∷ [])) out.new) }
     ensures err { OnErr result
-        (TookPrefix O.took out.old (chars word.now ++ (N.text number ++ 10 ∷ [])) out.new) }
+        (TookPrefix O.took out.old (chars word.now ++ (N.text number.now ++ 10 ∷ [])) out.new) }
     ensures cause { HasCause (O.faults out.old) (O.faults out.new) (O.takes_memory out.old) result }
 {
     out.push_str(word)?;
