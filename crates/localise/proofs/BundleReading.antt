@@ -10,7 +10,6 @@ use Rattle.gettext.specs.Options.{plain_options}
 use Rattle.gettext.specs.declared.error.Error.{Error}
 use Rattle.gettext.specs.declared.error.Error.TheVariants as mo
 use Rattle.icu_list.specs.ListFault.{IsFault, list_fault}
-use Rattle.icu_list.specs.Patterns.{Patterns}
 use Rattle.icu_list.specs.declared.error.DataError.{DataError}
 use Rattle.icu_list.specs.declared.error.DataError.TheVariants as lists
 use Rattle.icu_locale_core.specs.Locale.{Locale}

@@ -1,22 +1,23 @@
 -- What is kept of bundles, one more at a time.
-use Rattle.std.proofs.Common.{◌≡◌, ◌≢◌, ℕ, zero, suc, ◌+◌, ◌<◌, ◌≤◌, Bool, true, false, List, [], ◌∷◌, ◌++◌, length, Option, Some, None, take, refl, sym, ap, ◌∙◌, subst, arith}
+use Rattle.std.proofs.Common.{◌≡◌, ◌≢◌, ℕ, zero, suc, ◌+◌, ◌<◌, List, [], ◌∷◌, ◌++◌, length, Option, Some, take, refl, sym, ap, ◌∙◌, subst, arith}
 use Rattle.std.proofs.lemmas.List.Elements.{All-cons, All-nil}
 use Rattle.std.proofs.lemmas.List.Quantifiers.{all_pairs_push}
 use Rattle.std.proofs.lemmas.List.{length-map, length-take-le}
-use Rattle.std.specs.List.{All, AllPairs, Any, slice_get}
+use Rattle.std.specs.List.{All, Any, slice_get}
 use Rattle.std.specs.Prelude.{slice_index_or}
 use Rattle.std.specs.Prelude.{if◌then◌else◌}
 use Rattle.gettext.specs.Messages.{key_of}
 use Rattle.icu_list.specs.Patterns.{Patterns}
 use Rattle.icu_locale_core.specs.Equality.{same_locale}
 use Rattle.icu_locale_core.specs.Locale.{Locale}
-use Rattle.localise.specs.Bundles.{AllMean, AreBundles, IsBundleFault, IsFaultBehind, Means, in_locale}
+use Rattle.localise.specs.Bundles.{AllMean, IsBundleFault, IsFaultBehind, Means, in_locale}
 use Rattle.localise.specs.Read.{meaning_of, meanings_of}
 use Rattle.localise.specs.declared.bundle.Bundle.{Bundle}
 use Rattle.localise.specs.declared.error.RenderError.{RenderError}
 use Rattle.localise.specs.declared.error.RenderError.TheVariants as refusals
 use Rattle.localise.specs.Chosen.{Translation, form_for, numbered, translation_from}
 use Rattle.localise.specs.Kept.{AllKeep, AreAlike, AreRead, IsRead, Keeps}
+use Rattle.localise.proofs.Placing.{any_later}
 use Rattle.localise.specs.Meaning.{Meaning}
 use Rattle.localise_texts.specs.declared.bundle.BundleText.{BundleText}
 use Rattle.localise_texts.specs.declared.request.Request.{Request}
@@ -66,12 +67,6 @@ keep-all P (x ∷ kept) (y ∷ bs) h all =
     (keep-all P kept bs h.1 (all_later (λ (b : Meaning). P b.locale) x kept all))
 keep-all P [] (y ∷ bs) h all = absurd h
 keep-all P (x ∷ kept) [] h all = absurd h
-
--- what holds of some bundle behind the first
-any_later : (P : Meaning → Type 0) (x : Meaning) (xs : List Meaning) → Any P xs → Any P (x ∷ xs)
-any_later P x xs h =
-    let low = h.2 in
-    (suc h.0, h.1, omega arith, h.3, h.4)
 
 -- what holds of the locale of some bundle that is kept, the one with this number, holds of that of some bundle
 keep_any_at : (P : Locale → Type 0) (kept bs : List Meaning) (k : ℕ) (m : Meaning) → AllKeep kept bs

@@ -1,5 +1,5 @@
 -- Reading the texts of a list: where a fault of some of them is the first of all.
-use Rattle.std.proofs.Common.{◌≡◌, ◌≢◌, ℕ, Bool, true, false, List, [], ◌∷◌, ◌++◌, Option, Some, None, refl, sym, ap, ◌∙◌, subst}
+use Rattle.std.proofs.Common.{◌≡◌, ℕ, Bool, true, false, List, [], ◌∷◌, ◌++◌, Option, Some, None, refl, sym, ap, ◌∙◌, subst}
 use Rattle.std.specs.Prelude.{IfOk, Result, Ok, Err}
 use Rattle.localise.specs.Lists.{ArePatterns, EndsWith, PairsWith}
 use Rattle.lazy_dfa.specs.ConditionOf.{condition_of}
@@ -66,8 +66,8 @@ pub pattern_first : (prefix : Bool) (s : SpecialTexts) {x : Expression} (e : Dat
 pattern_first prefix s e condition h =
     fault_to (fault (joiner prefix true s.pattern)) (first_fault (special_faults prefix (Some s)))
     (λ e is.
-      ap (λ (r : Result Expression ConditionError). first_fault (condition_fault r ∷ fault (joiner prefix true s.pattern) ∷ [])) condition
-      ∙ ap (λ (o : Option DataError). first_fault (o ∷ [])) is)
+    ap (λ (r : Result Expression ConditionError). first_fault (condition_fault r ∷ fault (joiner prefix true s.pattern) ∷ [])) condition
+    ∙ ap (λ (o : Option DataError). first_fault (o ∷ [])) is)
     e (fault_of (joiner prefix true s.pattern) e h)
 
 -- what there is unless there is a fault
@@ -127,8 +127,8 @@ pub end_first : (t : ListTexts) (plain : Patterns) (e : DataError) → ArePatter
 end_first t plain e four h =
     fault_to (first_fault (special_faults false t.end_special)) (list_fault t)
     (λ e is.
-      first_fault-right (four_faults t) (special_faults false t.end_special ++ special_faults true t.pair_special) (read_four t plain four)
-      ∙ first_fault-left (special_faults false t.end_special) (special_faults true t.pair_special) e is) e h
+    first_fault-right (four_faults t) (special_faults false t.end_special ++ special_faults true t.pair_special) (read_four t plain four)
+    ∙ first_fault-left (special_faults false t.end_special) (special_faults true t.pair_special) e is) e h
 
 -- behind these the fault of the list is that of the special pair
 behind_end : (t : ListTexts) (plain : Patterns) → ArePatternsOf t.start t.middle t.end t.pair plain

@@ -1,10 +1,11 @@
 -- A walk has one outcome.
 use Rattle.std.proofs.Common.{◌≡◌, ◌≢◌, ℕ, ◌<◌, ◌≤◌, List, Option, Some, None, refl, sym, ap, ap₂, ◌∙◌, subst, arith, inl, inr}
 use Rattle.std.proofs.lemmas.Bool.{cases_lt}
+use Rattle.icu_list.specs.Patterns.{Patterns}
 use Rattle.icu_locale_core.specs.Locale.{Locale, unknown}
 use Rattle.icu_locale_fallback.specs.Tables.{Tables}
 use Rattle.icu_locale_fallback.specs.Walk.{at, NeverRepeats, Repeats}
-use Rattle.localise.specs.Chosen.{Outcome, Chosen, Own, Loops, IsOutcome, Translation, here}
+use Rattle.localise.specs.Chosen.{Answer, Answers, Outcome, Chosen, Own, Loops, IsOutcome, Translation, answer_of, here}
 use Rattle.localise.specs.Meaning.{Meaning}
 use Rattle.localise_texts.specs.declared.request.Request.{Request}
 
@@ -54,3 +55,10 @@ module _ (F : Tables) (bs : List Meaning) (l : Locale) (q : Request) (never : Ne
   outcome_one Loops (Chosen k u) h g = absurd (chosen_or_loops k u g h)
   outcome_one Loops (Own k) h g = absurd (never k h.0 g.0 h.1)
   outcome_one Loops Loops h g = refl
+
+  -- no answer where the walk comes round
+  pub round_none : (root : Patterns) (a : Answer) → Answers F bs root l q a → IsOutcome F bs l q Loops → ⊥
+  round_none root a answers round =
+      let same : answers.outcome ≡ Loops = outcome_one answers.outcome Loops answers.is round in
+      let gives : None ≡ Some a = ap (answer_of F root l q) (sym same) ∙ answers.gives in
+      cc

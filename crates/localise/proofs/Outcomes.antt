@@ -1,11 +1,11 @@
 -- The outcome of a walk over bundles.
-use Rattle.std.proofs.Common.{◌≡◌, ◌≢◌, ℕ, suc, ◌+◌, ◌*◌, ◌<◌, ◌≤◌, List, Option, Some, None, refl, sym, ap, ◌∙◌, subst, ◌⊎◌, inl, inr, arith}
+use Rattle.std.proofs.Common.{◌≡◌, ◌≢◌, ℕ, ◌+◌, ◌*◌, ◌<◌, ◌≤◌, List, Option, Some, None, refl, sym, ap, ◌∙◌, subst, inl, inr, arith}
 use Rattle.std.proofs.lemmas.Bool.{cases_lt}
 use Rattle.std.specs.FinMap as map
 use Rattle.icu_list.specs.Patterns.{Patterns}
 use Rattle.icu_locale_core.specs.Locale.{Locale, unknown}
 use Rattle.icu_locale_fallback.specs.Tables.{Tables}
-use Rattle.icu_locale_fallback.specs.Walk.{at, EndsOrRepeats, NeverRepeats, Repeats, RevisitsOnly, StaysUnknown}
+use Rattle.icu_locale_fallback.specs.Walk.{at, EndsOrRepeats, Repeats, RevisitsOnly, StaysUnknown}
 use Rattle.localise.specs.Chosen.{Outcome, Chosen, Own, Loops, IsOutcome, NoneBelow, Translation, here, translated, translation, untranslated}
 use Rattle.localise.specs.Given.{IsGivenBy, given}
 use Rattle.localise.specs.Kept.{AreAlike}

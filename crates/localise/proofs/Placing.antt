@@ -1,5 +1,5 @@
 -- Where the bundle of a locale stands among bundles.
-use Rattle.std.proofs.Common.{◌≡◌, ◌≢◌, ℕ, zero, suc, ◌+◌, ◌-◌, ◌<◌, ◌≤◌, Bool, true, false, cond, List, [], ◌∷◌, ◌++◌, length, Option, Some, None, refl, sym, ap, ◌∙◌, subst, arith}
+use Rattle.std.proofs.Common.{◌≡◌, ◌≢◌, ℕ, suc, ◌+◌, ◌-◌, ◌<◌, ◌≤◌, Bool, true, false, cond, List, [], ◌∷◌, ◌++◌, length, Option, Some, None, refl, sym, ap, ◌∙◌, subst, arith}
 use Rattle.std.proofs.lemmas.Bool.{false≢true}
 use Rattle.std.proofs.lemmas.List.Elements.{All-cons, All-nil}
 use Rattle.std.specs.BTreeMap.{BTreeMap, Updates, get}
@@ -184,7 +184,7 @@ place-apart i (x ∷ xs) l e =
     apart_step i x xs l (same_locale x.locale l) refl (place-apart (i + 1) xs l) e
 
 -- what holds of a later bundle holds of some bundle
-any_later : (P : Meaning → Type 0) (x : Meaning) (xs : List Meaning) → Any P xs → Any P (x ∷ xs)
+pub any_later : (P : Meaning → Type 0) (x : Meaning) (xs : List Meaning) → Any P xs → Any P (x ∷ xs)
 any_later P x xs h =
     let low = h.2 in
     (suc h.0, h.1, omega arith, h.3, h.4)
@@ -229,5 +229,5 @@ places-push bs b old new are none put l =
     ∙ ap (λ t. cond t (Some n) (get locale_cmp old l)) (same_tie b.locale l)
     ∙ ap (λ o. cond (same_locale b.locale l) (Some n) o) (are l)
     ∙ placed_by n (same_locale b.locale l) place
-        (λ same. sym (are l) ∙ ap (get locale_cmp old) (sym ((same_locale-Decides b.locale l).0 same)) ∙ none)
+    (λ same. sym (are l) ∙ ap (get locale_cmp old) (sym ((same_locale-Decides b.locale l).0 same)) ∙ none)
     ∙ sym (place-push 0 bs b l)

@@ -1,5 +1,5 @@
 -- What bundles mean, and which of them is the first that is faulty.
-use Rattle.std.specs.Prelude.{◌≡◌, ◌≢◌, ℕ, List, [], ◌∷◌, length, take, slice_get, Some, None, Any, AllPairs}
+use Rattle.std.specs.Prelude.{◌≡◌, ◌≢◌, ℕ, List, [], ◌∷◌, take, slice_get, Some, None, Any, AllPairs}
 use Rattle.gettext.specs.Faults.{mo_fault}
 use Rattle.gettext.specs.Mo.{entries}
 use Rattle.gettext.specs.Options.{plain_options}

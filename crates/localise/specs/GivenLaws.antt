@@ -1,5 +1,5 @@
 -- The length of what is found lies in its hint.
-use Rattle.std.specs.Prelude.{◌≡◌, ℕ, List, map}
+use Rattle.std.specs.Prelude.{ℕ, List, map}
 use Rattle.std.proofs.Common.{subst}
 use Rattle.std.proofs.lemmas.List.{map-id}
 use Rattle.icu_list.specs.Joined.{joined}

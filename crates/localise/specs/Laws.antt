@@ -5,7 +5,7 @@ use Rattle.icu_locale_core.specs.Locale.{Locale}
 use Rattle.icu_locale_fallback.specs.Tables as fallback
 use Rattle.language_tags.specs.Laws as tags
 use Rattle.localise.specs.Bundles.{AreAccepted, IsRefusal}
-use Rattle.localise.specs.Chosen.{IsOutcome, Outcome}
+use Rattle.localise.specs.Chosen.{Answer, Answers, ComesRound, IsOutcome, Outcome}
 use Rattle.localise.specs.Meaning.{Meaning}
 use Rattle.localise.specs.declared.error.RenderError.{RenderError}
 use Rattle.localise_texts.specs.declared.bundle.BundleText.{BundleText}
@@ -36,6 +36,12 @@ abbrev pub OneOutcome : Type 0
 OneOutcome =
     (F : fallback.Tables) (bundles : List Meaning) (l : Locale) (q : Request) (o r : Outcome) →
     IsOutcome F bundles l q o → IsOutcome F bundles l q r → o ≡ r
+
+-- a request has no answer where its walk comes round
+abbrev pub NoAnswerRound : Type 0
+NoAnswerRound =
+    (F : fallback.Tables) (bundles : List Meaning) (root : Patterns) (l : Locale) (q : Request) (a : Answer) →
+    Answers F bundles root l q a → ¬ (ComesRound F bundles l q)
 
 -- tables that answer alike: their registries answer each key alike, and their fallback is one
 pub record AnswerAlike (T U : Tables) : Type 0 where

@@ -8,5 +8,6 @@ pub mod Lists
 pub mod Meaning
 pub mod Places
 pub mod Read
+pub mod Render
 pub mod Stops
 pub mod Views

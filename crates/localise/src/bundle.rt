@@ -17,7 +17,7 @@ use icu_locale_fallback::{LocaleFallbackConfig, LocaleFallbackPriority};
 use localise_texts::{BundleText, Request};
 use std::alloc::Global;
 use std::marker::Model;
-use wanted_locale::{TagCause, Tables, wanted};
+use wanted_locale::{Tables, TagCause, wanted};
 
 /// A bundle that is read.
 #[derive(Drop)]
@@ -107,5 +107,11 @@ fn locale_of(alloc: Global, tables: &Tables, tag: &str) -> Result<DataLocale, Ta
     let config = LocaleFallbackConfig {
         priority: LocaleFallbackPriority::Language,
     };
-    Ok(tables.fallbacker.for_config(config).fallback_for(wanted).take())
+    Ok(
+        tables
+            .fallbacker
+            .for_config(config)
+            .fallback_for(wanted)
+            .take(),
+    )
 }

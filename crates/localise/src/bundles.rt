@@ -1,4 +1,5 @@
-ghost use Rattle.std.specs.Prelude.{◌≡◌, ◌≢◌, ◌<◌, [], ◌∷◌, ◌++◌, length, All, Any, Some, IfOk, IfErr, slice_get};
+ghost use Rattle.std.specs.Prelude.{◌≡◌, ◌≢◌, ◌<◌, [], ◌∷◌, ◌++◌, length};
+ghost use Rattle.std.specs.Prelude.{All, Any, Some, IfOk, IfErr, slice_get};
 ghost use Rattle.localise.specs.Chosen.{translation};
 ghost use Rattle.localise.specs.Places.{ArePlaces};
 ghost use Rattle.localise.specs.Read.{meaning_of, meanings_of};
@@ -40,7 +41,8 @@ impl Bundles {
     /// The bundle with this number.
     pub fn get(&self, number: usize) -> &Bundle
         requires { number < length self.now.list.items }
-        ensures { slice_get (meanings_of self.now.list.items) number ≡ Some (meaning_of result.now) }
+        ensures { slice_get (meanings_of self.now.list.items) number
+            ≡ Some (meaning_of result.now) }
     {
         &self.list[number]
     }

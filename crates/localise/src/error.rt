@@ -19,6 +19,17 @@ pub enum BundleCause {
     List(DataError),
 }
 
+impl BundleCause {
+    /// A few words on the error that it carries.
+    pub fn text(&self) -> &'static str {
+        match self {
+            BundleCause::Tag(cause) => cause.text(),
+            BundleCause::Mo(error) => error.text(),
+            BundleCause::List(error) => error.text(),
+        }
+    }
+}
+
 /// Why no text was given. Bundles are numbered from 0.
 #[derive(Clone, Copy, Debug, PartialEq, Eq, ErrorType)]
 pub enum RenderError {
@@ -46,10 +57,32 @@ pub enum RenderError {
     NoMemory,
 }
 
+impl RenderError {
+    /// A few words on the error that it carries, or on itself.
+    pub fn text(&self) -> &'static str {
+        match self {
+            RenderError::Bundle(_, cause) => cause.text(),
+            RenderError::DuplicateLocale(_) => "locale of an earlier bundle",
+            RenderError::Root(error) => error.text(),
+            RenderError::Tag(cause) => cause.text(),
+            RenderError::ChainLoops => "fallback loops",
+            RenderError::Sink => "write fault",
+            RenderError::NoMemory => "out of memory",
+        }
+    }
+}
+
 /// The walk from a wanted locale comes round before a locale translates.
 #[derive(Clone, Copy, Debug, PartialEq, Eq, ErrorType)]
 #[error("fallback loops")]
 pub struct ChainLoops;
+
+impl ChainLoops {
+    /// A few words on the error.
+    pub fn text(&self) -> &'static str {
+        "fallback loops"
+    }
+}
 
 /// A bundle whose tag has this cause.
 pub(crate) fn in_tag(number: usize, cause: TagCause) -> RenderError

@@ -82,8 +82,8 @@ impl Found<'_> {
 }
 
 impl<'a> Found<'a> {
-    /// What is found where a walk stops: its translation, or the request's own words, which the root's
-    /// patterns are for.
+    /// What is found where a walk stops: its translation, or the request's own words, which the
+    /// root's patterns are for.
     pub(crate) fn of_stop(
         stop: Stop<'a>,
         root: &'a ListFormatterPatterns,

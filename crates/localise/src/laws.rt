@@ -1,7 +1,7 @@
 //! Laws of bundles and walks, for contracts that cite them. Each function does nothing: its contract
 //! is the law.
-ghost use Rattle.localise.specs.Laws.{AcceptedByAnswers, NeverBoth, OneMeaning, OneOutcome};
-ghost use Rattle.localise.specs.Laws.{OneRefusal, RefusedByAnswers};
+ghost use Rattle.localise.specs.Laws.{AcceptedByAnswers, NeverBoth, NoAnswerRound, OneMeaning};
+ghost use Rattle.localise.specs.Laws.{OneOutcome, OneRefusal, RefusedByAnswers};
 
 use gettext::one_meaning;
 use icu_locale_fallback::laws::walk_that_ends_never_repeats;
@@ -17,9 +17,10 @@ pub fn bundles_have_one_meaning()
     one_meaning();
 }
 
-/// The walk of a request has one outcome at most.
+/// The walk of a request has one outcome at most, and a request no answer where it comes round.
 pub fn walk_has_one_outcome()
-    ensures { OneOutcome }
+    ensures one { OneOutcome }
+    ensures round { NoAnswerRound }
 {
     walk_that_ends_never_repeats();
 }

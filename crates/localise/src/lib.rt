@@ -21,6 +21,7 @@
 //! - `key`: a locale, as bundles are looked up by it.
 //! - `lists`: the patterns that a list's texts are.
 //! - `walk`: the walk over locales, up to one that translates.
+//! - `laws`: laws of localisers, for contracts above.
 //! - `error`: [`RenderError`], [`BundleCause`] and [`ChainLoops`], why there is no text.
 #![tactic(auto)]
 
@@ -32,10 +33,12 @@ mod key;
 pub mod laws;
 mod lists;
 mod localiser;
+mod rendered;
 mod walk;
 
 pub use error::{BundleCause, ChainLoops, RenderError};
 pub use found::Found;
 pub use localise_texts::{BundleText, MoBytes, PatternTexts, Request, Special};
 pub use localiser::Localiser;
-pub use wanted_locale::{TagCause, Tables};
+pub use rendered::{Rendered, render};
+pub use wanted_locale::{Tables, TagCause};

@@ -4,12 +4,11 @@
 ghost use Rattle.std.specs.Prelude.{◌≡◌, Some, None, IfOk, IfErr, true, false};
 ghost use Rattle.std.specs.Option.{option_map};
 ghost use Rattle.icu_list.specs.ListFault.{IsFault, first_fault, list_fault, special_faults};
-ghost use Rattle.localise.specs.Lists.{ArePatterns, EndsWith, IsSpecialPattern, PairsWith, list_texts, special_texts};
+ghost use Rattle.localise.specs.Lists.{ArePatterns, EndsWith, IsSpecialPattern, PairsWith};
+ghost use Rattle.localise.specs.Lists.{list_texts, special_texts};
 
 use icu_list::DataError;
-use icu_list::provider::{
-    ListFormatterPatterns, ListJoinerPattern, SerdeDFA, SpecialCasePattern,
-};
+use icu_list::provider::{ListFormatterPatterns, ListJoinerPattern, SerdeDFA, SpecialCasePattern};
 use lazy_dfa::a_pattern_is_read;
 use localise_texts::{PatternTexts, Special};
 use std::alloc::Global;
@@ -85,7 +84,11 @@ fn special_case(
 {
     a_pattern_is_read();
     let condition = SerdeDFA::new(alloc, special.condition.as_str())?;
-    let pattern =
-        ListJoinerPattern::try_from_str(alloc, special.pattern.as_str(), allow_prefix, true)?;
+    let pattern = ListJoinerPattern::try_from_str(
+        alloc,
+        special.pattern.as_str(),
+        allow_prefix,
+        true,
+    )?;
     Ok(SpecialCasePattern { condition, pattern })
 }

@@ -1,4 +1,5 @@
-ghost use Rattle.std.specs.Prelude.{◌≡◌, ◌≢◌, ◌≤◌, ◌<◌, ◌+◌, ◌*◌, length, IfOk, IfErr, IsSomeAnd, slice_get};
+ghost use Rattle.std.specs.Prelude.{◌≡◌, ◌≢◌, ◌≤◌, ◌<◌, ◌+◌, ◌*◌, length};
+ghost use Rattle.std.specs.Prelude.{IfOk, IfErr, IsSomeAnd, slice_get};
 ghost use Rattle.std.specs.FinMap as map;
 ghost use Rattle.gettext.specs.Table.{messages_of};
 ghost use Rattle.localise.specs.Bundles.{IsBundleFault, IsRefusal};
@@ -19,7 +20,7 @@ use icu_list::provider::ListFormatterPatterns;
 use icu_locale_core::DataLocale;
 use localise_texts::{BundleText, PatternTexts, Request};
 use std::alloc::Global;
-use wanted_locale::{TagCause, Tables, wanted};
+use wanted_locale::{Tables, TagCause, wanted};
 
 /// Bundles that are read, ready for requests.
 #[derive(Drop)]
@@ -100,11 +101,7 @@ impl<'a> Localiser<'a> {
 }
 
 /// Reads bundles in their order, up to the first that is faulty.
-fn read_all(
-    alloc: Global,
-    tables: &Tables,
-    texts: &[BundleText],
-) -> Result<Bundles, RenderError>
+fn read_all(alloc: Global, tables: &Tables, texts: &[BundleText]) -> Result<Bundles, RenderError>
     ensures ok { IfOk result (λ read.
         AreRead tables.now texts.now (meanings_of read.list.items)) }
     ensures err { IfErr result (λ e. e ≢ RenderError.NoMemory

@@ -27,8 +27,8 @@ pub(crate) struct Stop<'a> {
     pub translation: Option<Translated<'a>>,
 }
 
-/// Where the walk from a locale over these bundles stops for a request; nowhere where it comes round
-/// before that.
+/// Where the walk from a locale over these bundles stops for a request; nowhere where it comes
+/// round before that.
 pub(crate) fn walk_to_stop<'a>(
     fallbacker: &LocaleFallbacker,
     bundles: &'a Bundles,

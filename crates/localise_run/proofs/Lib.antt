@@ -5,3 +5,4 @@ mod OneTables
 mod SameRows
 mod TagBytes
 mod Written
+pub mod FoundLines

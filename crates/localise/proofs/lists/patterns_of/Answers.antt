@@ -1,5 +1,5 @@
 use Rattle.std.proofs.lemmas.Result.{err_from_is_err_and}
-use Rattle.localise.specs.Lists.{ArePatterns, list_texts}
+use Rattle.localise.specs.Lists.{list_texts}
 use Rattle.localise.proofs.ListReading.{four_first_of, patterns_read}
 use Rattle.localise.proofs.lists.patterns_of.Goals as goal
 

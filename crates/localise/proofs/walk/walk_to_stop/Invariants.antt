@@ -1,5 +1,4 @@
-use Rattle.std.proofs.Common.{◌≡◌, ◌≢◌, ℕ, ◌<◌, ◌*◌, ◌+◌}
-use Rattle.std.specs.FinMap as map
+use Rattle.std.proofs.Common.{◌≡◌}
 use Rattle.icu_locale_fallback.specs.Views.{walk_of}
 use Rattle.localise.specs.Chosen.{NoneBelow}
 use Rattle.localise.specs.Read.{meanings_of}

@@ -1,4 +1,4 @@
-use Rattle.std.proofs.Common.{◌≡◌, sym, ap, ◌∙◌, Some, None}
+use Rattle.std.proofs.Common.{ap, ◌∙◌, Some, None}
 use Rattle.std.specs.Str.{chars}
 use Rattle.gettext.specs.Table.{messages_of}
 use Rattle.localise.specs.Chosen.{numbered}

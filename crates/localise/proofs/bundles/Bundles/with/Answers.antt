@@ -1,4 +1,4 @@
-use Rattle.std.proofs.Common.{◌≡◌, ◌+◌, length, sym, ap, ◌∙◌, subst, Some, None, ◌++◌, ◌∷◌, []}
+use Rattle.std.proofs.Common.{◌≡◌, length, sym, ap, ◌∙◌, subst, Some, None, ◌∷◌, []}
 use Rattle.std.proofs.lemmas.List.{length-map, map-append}
 use Rattle.std.specs.BTreeMap.{Updates, get}
 use Rattle.localise.specs.Places.{ArePlaces, locale_cmp}
