@@ -1,8 +1,9 @@
+mod FoundLines
 mod Lines
 mod OneAnswer
 mod OneRendering
 mod OneTables
 mod SameRows
+mod TableStatuses
 mod TagBytes
 mod Written
-pub mod FoundLines

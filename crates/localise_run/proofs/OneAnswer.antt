@@ -74,21 +74,21 @@ module _ (laws : DocumentLaws) (command : Command) (d : Contents) where
 
   -- a document has one answer
   answer_one : (a b : Status) (s t : List ℕ) → IsAnswer command d a s → IsAnswer command d b t → (a ≡ b) × (s ≡ t)
-  answer_one a b s t (in_tables {cause = c} h is none) (in_tables {cause = e} g so no) =
-      (is ∙ ap status.Table (laws.one_table_fault d c e h g) ∙ sym so, none ∙ sym no)
-  answer_one a b s t (in_tables {cause = c} h is none) (in_bundles {T = T} g r so no) = absurd (laws.tables_no_fault d T c g h)
+  answer_one a b s t (in_tables {cause = c} h is none) (in_tables {cause = e} g so empty) =
+      (is ∙ ap status.Table (laws.one_table_fault d c e h g) ∙ sym so, none ∙ sym empty)
+  answer_one a b s t (in_tables {cause = c} h is none) (in_bundles {T = T} g r so empty) = absurd (laws.tables_no_fault d T c g h)
   answer_one a b s t (in_tables {cause = c} h is none) (in_requests {T = T} g m n) = absurd (laws.tables_no_fault d T c g h)
-  answer_one a b s t (in_bundles {T = T} h r is none) (in_tables {cause = c} g so no) = absurd (laws.tables_no_fault d T c h g)
-  answer_one a b s t (in_bundles {T = T} {refusal = e} h r is none) (in_bundles {T = U} {refusal = f} g q so no) =
+  answer_one a b s t (in_bundles {T = T} h r is none) (in_tables {cause = c} g so empty) = absurd (laws.tables_no_fault d T c h g)
+  answer_one a b s t (in_bundles {T = T} {refusal = e} h r is none) (in_bundles {T = U} {refusal = f} g q so empty) =
       let same = laws.one_refusal U d.bundles d.root e f (laws.refused_along T U d.bundles d.root e (laws.alike d T U h g) r) q in
-      (is ∙ ap status_of same ∙ sym so, none ∙ sym no)
+      (is ∙ ap status_of same ∙ sym so, none ∙ sym empty)
   answer_one a b s t (in_bundles {T = T} {refusal = e} h r is none) (in_requests {T = U} {bundles = bs} {root = p} g m n) =
       absurd (refused_or_accepted T U e bs p h g r m)
-  answer_one a b s t (in_requests {T = T} h m n) (in_tables {cause = c} g so no) = absurd (laws.tables_no_fault d T c h g)
-  answer_one a b s t (in_requests {T = U} {bundles = bs} {root = p} h m n) (in_bundles {T = T} {refusal = e} g r so no) =
+  answer_one a b s t (in_requests {T = T} h m n) (in_tables {cause = c} g so empty) = absurd (laws.tables_no_fault d T c h g)
+  answer_one a b s t (in_requests {T = U} {bundles = bs} {root = p} h m n) (in_bundles {T = T} {refusal = e} g r so empty) =
       absurd (refused_or_accepted T U e bs p g h r m)
-  answer_one a b s t (in_requests {T = T} {bundles = bs} {root = p} h m made) (in_requests {T = U} {bundles = cs} {root = r} g n other) =
-      requests_one T U bs cs p r a b s t h g m n made other
+  answer_one a b s t (in_requests {T = T} {bundles = bs} {root = p} h m first) (in_requests {T = U} {bundles = cs} {root = r} g n other) =
+      requests_one T U bs cs p r a b s t h g m n first other
 
 -- ---- bytes
 
@@ -120,21 +120,21 @@ no_json o x none some = cc
 
 module _ (laws : DocumentLaws) (command : Command) (bytes : List ℕ) where
   pub says_one : (a b : Status) (s t : List ℕ) → Says command bytes a s → Says command bytes b t → (a ≡ b) × (s ≡ t)
-  says_one a b s t (too_long m is none) (too_long n so no) = (is ∙ sym so, none ∙ sym no)
-  says_one a b s t (too_long m is none) (not_json l j so no) = absurd (many_or_few bytes m l)
-  says_one a b s t (too_long m is none) (misshapen l p so no) = absurd (many_or_few bytes m l)
+  says_one a b s t (too_long m is none) (too_long n so empty) = (is ∙ sym so, none ∙ sym empty)
+  says_one a b s t (too_long m is none) (not_json l j so empty) = absurd (many_or_few bytes m l)
+  says_one a b s t (too_long m is none) (misshapen l p so empty) = absurd (many_or_few bytes m l)
   says_one a b s t (too_long m is none) (document l d x) = absurd (many_or_few bytes m l)
-  says_one a b s t (not_json l j is none) (too_long n so no) = absurd (many_or_few bytes n l)
-  says_one a b s t (not_json l j is none) (not_json m k so no) = (is ∙ sym so, none ∙ sym no)
-  says_one a b s t (not_json l j is none) (misshapen m p so no) = absurd (no_json (json_of bytes) p.value j p.json)
+  says_one a b s t (not_json l j is none) (too_long n so empty) = absurd (many_or_few bytes n l)
+  says_one a b s t (not_json l j is none) (not_json m k so empty) = (is ∙ sym so, none ∙ sym empty)
+  says_one a b s t (not_json l j is none) (misshapen m p so empty) = absurd (no_json (json_of bytes) p.value j p.json)
   says_one a b s t (not_json l j is none) (document m d x) = absurd (no_json (json_of bytes) d.value j d.json)
-  says_one a b s t (misshapen l p is none) (too_long n so no) = absurd (many_or_few bytes n l)
-  says_one a b s t (misshapen l p is none) (not_json m j so no) = absurd (no_json (json_of bytes) p.value j p.json)
-  says_one a b s t (misshapen {place = x} l p is none) (misshapen {place = y} m q so no) =
-      (is ∙ ap status.Shape (place_one bytes x y p q) ∙ sym so, none ∙ sym no)
+  says_one a b s t (misshapen l p is none) (too_long n so empty) = absurd (many_or_few bytes n l)
+  says_one a b s t (misshapen l p is none) (not_json m j so empty) = absurd (no_json (json_of bytes) p.value j p.json)
+  says_one a b s t (misshapen {place = x} l p is none) (misshapen {place = y} m q so empty) =
+      (is ∙ ap status.Shape (place_one bytes x y p q) ∙ sym so, none ∙ sym empty)
   says_one a b s t (misshapen {place = x} l p is none) (document {d = d} m g y) = absurd (document_or_place bytes d x g p)
-  says_one a b s t (document l g x) (too_long n so no) = absurd (many_or_few bytes n l)
-  says_one a b s t (document l g x) (not_json m j so no) = absurd (no_json (json_of bytes) g.value j g.json)
-  says_one a b s t (document {d = d} l g x) (misshapen {place = y} m p so no) = absurd (document_or_place bytes d y g p)
+  says_one a b s t (document l g x) (too_long n so empty) = absurd (many_or_few bytes n l)
+  says_one a b s t (document l g x) (not_json m j so empty) = absurd (no_json (json_of bytes) g.value j g.json)
+  says_one a b s t (document {d = d} l g x) (misshapen {place = y} m p so empty) = absurd (document_or_place bytes d y g p)
   says_one a b s t (document {d = d} l g x) (document {d = e} m h y) =
       answer_one laws command d a b s t x (subst (λ c. IsAnswer command c b t) (document_one bytes e d h g) y)

@@ -131,7 +131,7 @@ module _ (laws : Laws) (T : Tables) where
         absurd (not (sym (rendered_one qs Done b h.are.lines l (numbers_rendered qs s h) r).0))
     generated_one qs a b s t (refused {lines = l} r not is) (all g so) =
         absurd (not (sym (rendered_one qs Done a g.are.lines l (numbers_rendered qs t g) r).0))
-    generated_one qs a b s t (refused {lines = l} r not is) (refused {lines = m} q no so) =
+    generated_one qs a b s t (refused {lines = l} r not is) (refused {lines = m} q other so) =
         ((rendered_one qs a b l m r q).0, is ∙ sym so)
 
   -- ---- walking

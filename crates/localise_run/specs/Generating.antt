@@ -1,6 +1,6 @@
 -- `generate`: requests made from those of a document, and three numbers of their lines.
 use Rattle.std.specs.Fmt.{decimal}
-use Rattle.std.specs.Prelude.{◌≡◌, ◌≢◌, ℕ, zero, suc, ◌+◌, ◌-◌, ◌%◌, ◌^◌, min, List, [], ◌∷◌, ◌++◌, codes, length, get_or, repeat}
+use Rattle.std.specs.Prelude.{◌≡◌, ◌≢◌, ℕ, zero, suc, ◌+◌, ◌-◌, ◌%◌, ◌^◌, min, List, [], ◌∷◌, ◌++◌, codes, length, get_or, replicate}
 use Rattle.icu_list.specs.Patterns.{Patterns}
 use Rattle.icu_locale_core.specs.Locale.{Locale}
 use Rattle.localise.specs.Chosen.{Answer, Answers}
@@ -17,7 +17,7 @@ use Rattle.writeable_core.specs.Hint.{byte_length}
 
 -- a request with the count and the items of made request i
 abbrev pub made_from : ℕ → Request → Request
-made_from i q = record q { count = i % 3; items = repeat (codes "x") (i % 4) }
+made_from i q = record q { count = i % 3; items = replicate (i % 4) (codes "x") }
 
 -- n made requests, the first of which has the number i: made request i is the document's of number i mod r
 abbrev pub made : List Request → ℕ → ℕ → List Request

@@ -6,7 +6,7 @@ use Rattle.localise_run.specs.declared.command.Command.{Command}
 use Rattle.localise_status.specs.declared.status.Status.{Status}
 use Rattle.localise_status.specs.declared.status.Status.TheVariants.{WriteFault}
 use Rattle.writeable_core.specs.Sink.{Rose, TookPrefix}
-use Rattle.writeable_sinks.specs.StdSink.{Writes, Writing}
+use Rattle.writeable_sinks.specs.StdSink.{Writes, Writing as OfWriter}
 
 -- the bytes that were read: those that the source had left, where it tells them
 abbrev pub AreRead : Option (List ℕ) → List ℕ → Type 0
@@ -74,6 +74,6 @@ Runs took command left before now x Memory answer = GivesRead took command left 
 -- Over one of std's writers a run has an answer, and the status is that, or that the writer failed when it was flushed.
 pub record RunsAndFlushes {W : Type 0} (contents : W → Option (List ℕ)) (command : Command) (left : Option (List ℕ)) (before now : ℕ) (writer : W) (result : Status) : Type 0 where
   pub answer : Status
-  pub out : Writing W
+  pub out : OfWriter W
   pub runs : Runs (Writes contents) command left before now (written (λ x. x.faults) (record { writer = writer; faults = 0 }) out) (class_of answer) answer
   pub status : (result ≡ answer) ⊎ (result ≡ WriteFault)

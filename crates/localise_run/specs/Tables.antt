@@ -7,6 +7,8 @@ use Rattle.language_tags_registry.specs.Faults as registry
 use Rattle.language_tags_registry.specs.declared.error.RegistryError.TheVariants as tags
 use Rattle.language_tags_registry.specs.declared.rows.RegistryRows.{RegistryRows}
 use Rattle.localise_document.specs.Contents.{Contents, registry_lists, fallback_lists}
+use Rattle.localise_status.specs.declared.status.Status.{Status}
+use Rattle.localise_status.specs.declared.status.Status.TheVariants.{NoMemory, Table}
 use Rattle.localise_status.specs.declared.status.TableCause.{TableCause}
 use Rattle.localise_status.specs.declared.status.TableCause.TheVariants.{Registry, Fallback}
 use Rattle.wanted_locale.specs.declared.tables.Tables.{Tables}
@@ -34,3 +36,8 @@ pub data IsTableFault (d : Contents) (cause : TableCause) : Type 0 where
   in_fallback : {rows : RegistryRows} {others : FallbackRows} {error : _} → AreRegistryRows d rows
       → registry.AreRowsSound rows → AreFallbackRows d others → error ≢ locales.NoMemory
       → fallback.IsFirstFault others error → cause ≡ Fallback error → IsTableFault d cause
+
+-- the status of a faulty row, or of want of memory
+pub data IsTableStatus (d : Contents) (status : Status) : Type 0 where
+  faulty : {cause : TableCause} → IsTableFault d cause → status ≡ Table cause → IsTableStatus d status
+  no_memory : status ≡ NoMemory → IsTableStatus d status

@@ -1,13 +1,18 @@
 //! What all commands do first: a document's tables and its bundles.
 
-ghost use Rattle.std.specs.Prelude.{◌≡◌};
+ghost use Rattle.std.specs.Prelude.{◌≡◌, IfErr, IfOk};
+ghost use Rattle.localise_document.specs.Contents.{Contents};
 ghost use Rattle.localise_run.specs.Answers.{status_of};
-ghost use Rattle.localise_run.specs.Causes.{status_of_document, status_of_fallback, status_of_registry};
+ghost use Rattle.localise_run.specs.Causes.{status_of_document, status_of_fallback};
+ghost use Rattle.localise_run.specs.Causes.{status_of_registry};
+ghost use Rattle.localise_run.specs.Tables.{AreFallbackRows, AreRegistryRows, HasTables};
+ghost use Rattle.localise_run.specs.Tables.{IsTableStatus};
 
 use crate::{Status, TableCause};
 use icu_locale_fallback::{FallbackRows, LocaleFallbacker, TableError};
 use language_tags::{Registry, RegistryError, RegistryRows};
-use localise::{BundleCause, RenderError};
+use language_tags_registry::laws::rows_make_one_registry;
+use localise::RenderError;
 use localise_document::DocumentError;
 use std::alloc::Global;
 use wanted_locale::Tables;
@@ -18,13 +23,23 @@ pub(crate) fn tables_of(
     registry: &RegistryRows,
     fallback: &FallbackRows,
 ) -> Result<Tables, Status>
+    ensures ok { (d : Contents) → AreRegistryRows d registry.now → AreFallbackRows d fallback.now
+        → IfOk result (HasTables d) }
+    ensures err { (d : Contents) → AreRegistryRows d registry.now → AreFallbackRows d fallback.now
+        → IfErr result (IsTableStatus d) }
 {
-    let registry = Registry::try_new(alloc, registry).map_err(of_registry)?;
-    let fallbacker = LocaleFallbacker::try_new(alloc, fallback).map_err(of_fallback)?;
-    Ok(Tables {
-        registry,
-        fallbacker,
-    })
+    rows_make_one_registry();
+    let registry = match Registry::try_new(alloc, registry) {
+        Ok(registry) => registry,
+        Err(error) => return Err(of_registry(error)),
+    };
+    match LocaleFallbacker::try_new(alloc, fallback) {
+        Ok(fallbacker) => Ok(Tables {
+            registry,
+            fallbacker,
+        }),
+        Err(error) => Err(of_fallback(error)),
+    }
 }
 
 fn of_registry(error: RegistryError) -> Status

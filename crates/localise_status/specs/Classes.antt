@@ -3,8 +3,8 @@ use Rattle.std.specs.Prelude.{ℕ}
 use Rattle.localise_status.specs.declared.status.Status.{Status}
 use Rattle.localise_status.specs.declared.status.Status.TheVariants.{Done, BadWords, NotJson, Shape, Table, Bundle, DuplicateLocale, Root, Request, ReadFault, WriteFault, NoMemory, TooLong}
 
--- What a status is about: the words are no command; the source failed; the input has this answer, before any line or behind
--- some; the output failed; or memory ran out.
+-- What a status is about: the words are no command; the source failed; the input has this answer,
+-- before any line or behind some; the output failed; or memory ran out.
 pub data Class : Type 0 where
   Words : Class
   Reading : Class
@@ -13,6 +13,7 @@ pub data Class : Type 0 where
   Writing : Class
   Memory : Class
 
+-- the class of a status
 abbrev pub class_of : Status → Class
 class_of Done = Answered
 class_of BadWords = Words
@@ -53,6 +54,7 @@ FailsIn Answered = ⊥
 FailsIn Writing = Unit {0}
 FailsIn Memory = Unit {0}
 
+-- a status that tells of such a failure
 abbrev pub IsFailure : Status → Type 0
 IsFailure status = FailsIn (class_of status)
 

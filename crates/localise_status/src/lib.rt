@@ -11,7 +11,9 @@
 //! - `fault_line`: the line that tells of a status.
 #![tactic(auto)]
 
+mod fault_line;
 mod status;
 
+pub use fault_line::write_fault_line;
 pub use localise_document::{Field, Section, ShapePlace};
 pub use status::{RequestCause, Status, TableCause};

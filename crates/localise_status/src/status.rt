@@ -1,3 +1,5 @@
+//! How a run ended, and the exit status of that.
+
 ghost use Rattle.std.specs.Prelude.{◌≡◌};
 ghost use Rattle.localise_status.specs.Classes.{code_of};
 
@@ -42,7 +44,9 @@ pub enum Status {
 /// What is wrong with a row of a table.
 #[derive(Clone, Copy, Debug, PartialEq, Eq)]
 pub enum TableCause {
+    /// The table is one of the registry.
     Registry(RegistryError),
+    /// The table is one of fallback.
     Fallback(TableError),
 }
 

@@ -10,7 +10,7 @@ returns c command bytes = says_one (record {
     never_both = c.texts_and_locales.ensures.never_both;
     wanted_along = c.wanted_goes_by_answers.ensures.locale;
     cause_along = c.wanted_goes_by_answers.ensures.cause;
-    one_outcome = c.walk_has_one_outcome.ensures;
+    one_outcome = c.walk_has_one_outcome.ensures.one;
     one_end = c.walk_has_one_end.ensures.one;
     never_repeats = c.walk_has_one_end.ensures.never;
   };

@@ -4,7 +4,8 @@ use Rattle.localise.specs.Meaning.{Meaning}
 use Rattle.localise.specs.Views.{root_of}
 use Rattle.localise_run.proofs.Lines.{got}
 use Rattle.localise_run.proofs.TagBytes.{has_cause, wants}
-use Rattle.localise_run.proofs.Written.{wrote_all, wrote_failing, wrote_more, wrote_none, wrote_to_tag}
+use Rattle.std.proofs.Math.Seq.{take-length}
+use Rattle.localise_run.proofs.Written.{WroteTo, wrote_all, wrote_failing, wrote_more, wrote_none, wrote_to_tag}
 use Rattle.localise_run.specs.Rendering.{AreRendered, BeginRendered, IsLine, IsLineFault, in_tag}
 use Rattle.localise_run.specs.Run.{Gives, written}
 use Rattle.localise_status.specs.declared.status.Status.{Status}
@@ -39,8 +40,8 @@ returns-in-Err-locale_of g c = λ bundles alike.
     (got c.args.requests.now c.loop-number.number q within c.index-requests-number.is)
     (λ some. in_tag (has_cause T q c.as_str-next_tag.result.now c.as_str-next_tag.utf8 c.as_str-next_tag.ensures c.in-Err-locale_of.cause c.in-Err-locale_of.ensures.err some)))
 
-pub write_request-requires-wants : goal.write_request-requires-wants
-write_request-requires-wants g c =
+pub write_request-requires-clause-wants : goal.write_request-requires-clause-wants
+write_request-requires-clause-wants g c =
     wants c.args.tables.now c.index-requests-number.result c.as_str-next_tag.result.now c.as_str-next_tag.utf8 c.as_str-next_tag.ensures c.in-Ok-locale_of.locale c.in-Ok-locale_of.ensures.ok
 
 pub returns-in-Err-write_request : goal.returns-in-Err-write_request
@@ -69,3 +70,16 @@ loop-number-preserved g c =
       c.in-Ok-locale_of.ensures.ok,
       c.as_str-next_tag.utf8,
     )
+
+pub returns : goal.returns
+returns g c = λ bundles alike.
+    let T = c.args.tables.now in
+    let root = root_of c.args.localiser.now in
+    let qs = c.args.requests.now in
+    let took = g.O.Sink.took in
+    let end = c.loop-number.auto.number-end in
+    let all : c.loop-number.number ≡ length qs = omega (arith, c.loop-number-test.false, end) in
+    wrote_all took g.O.Sink.faults g.met.O.Sink.took_both g.met.O.Sink.took_faults (IsLine T bundles root) (IsLineFault T bundles root) qs
+    c.args.out.now c.loop-number.out
+    (subst (λ (n : ℕ). WroteTo took (IsLine T bundles root) (IsLineFault T bundles root) qs c.args.out.now n c.loop-number.out) all (c.loop-number.invariant.0 bundles alike))
+    (take-length qs)

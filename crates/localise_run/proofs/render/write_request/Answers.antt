@@ -1,5 +1,6 @@
 -- The line is the localised text and a line feed; or the walk comes round.
-use Rattle.std.proofs.Common.{List, refl, sym, subst}
+use Rattle.std.proofs.Common.{List, refl, sym, ap, subst}
+use Rattle.std.specs.Prelude.{Err}
 use Rattle.localise.specs.Given.{text_given}
 use Rattle.localise.specs.Meaning.{Meaning}
 use Rattle.localise.specs.Views.{root_of, tables_of}
@@ -22,8 +23,8 @@ returns-in_default-clause-err g c = λ bundles alike.
       kept = refl;
     }
 
-pub returns-in-Ok-clause-ok : goal.returns-in-Ok-clause-ok
-returns-in-Ok-clause-ok g c = λ bundles alike.
+pub returns-in-Ok-write_line-clause-ok : goal.returns-in-Ok-write_line-clause-ok
+returns-in-Ok-write_line-clause-ok g c = λ bundles alike.
     record {
       line = line_of (text_given c.in-Ok.found);
       is = found_line c.args.tables.now (tables_of c.args.localiser.now) c.requires.tables bundles (root_of c.args.localiser.now)
@@ -39,4 +40,4 @@ returns-in-Err-clause-err g c = λ bundles alike.
     (written g.O.Sink.faults c.args.out.now c.write_line.new.out) c.args.number c.args.request.now) (sym c.of_sink.ensures)
     (sink_fails g.O.Sink.took (IsLine c.args.tables.now bundles (root_of c.args.localiser.now)) (IsLineFault c.args.tables.now bundles (root_of c.args.localiser.now))
     (written g.O.Sink.faults c.args.out.now c.write_line.new.out) c.args.number c.args.request.now
-    (line_of (text_given c.in-Ok.found)) c.in-Err.error is c.in-Err.ensures.err _)
+    (line_of (text_given c.in-Ok.found)) c.in-Err.error is c.in-Err.ensures.err (λ fault. c.in-Err.ensures.cause.fault (ap Err fault)))

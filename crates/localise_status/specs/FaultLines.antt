@@ -23,35 +23,44 @@ use Rattle.localise_status.specs.declared.status.TableCause.TheVariants as table
 use Rattle.wanted_locale.specs.Words as wanted
 use Rattle.writeable_core.specs.Sink.{Rose, TookPrefix}
 
--- a place of a document: its section, its index and its field
+-- a section, an index and a field, with spaces between them
+abbrev pub placed_text : List ℕ → ℕ → List ℕ → List ℕ
+placed_text section index field = section ++ (32 ∷ (decimal index ++ (32 ∷ field)))
+
+-- a place of a document
 abbrev pub place_text : ShapePlace → List ℕ
-place_text place = section_name place.section ++ (32 ∷ (decimal place.index ++ (32 ∷ field_name place.field)))
+place_text place = placed_text (section_name place.section) place.index (field_name place.field)
 
 -- a row of a table, and what is wrong with it
 abbrev pub row_text : List ℕ → ℕ → List ℕ → List ℕ
 row_text name row words = codes "table " ++ (name ++ (codes " row " ++ (decimal row ++ (codes ": " ++ words))))
 
+-- the fault of a table of the registry
 abbrev pub registry_text : RegistryError → List ℕ
 registry_text (tags.DuplicateKey table row) = row_text (field_name (RegistryTable table)) row (codes "duplicate key")
 registry_text (tags.BadKey table row) = row_text (field_name (RegistryTable table)) row (codes "bad key")
 registry_text (tags.BadValue table row) = row_text (field_name (RegistryTable table)) row (codes "bad value")
 registry_text tags.NoMemory = registry.words_of tags.NoMemory
 
+-- the fault of a table of fallback
 abbrev pub fallback_text : TableError → List ℕ
 fallback_text (locales.DuplicateKey table row) = row_text (field_name (FallbackTable table)) row (codes "duplicate key")
 fallback_text (locales.BadKey table row) = row_text (field_name (FallbackTable table)) row (codes "bad key")
 fallback_text (locales.BadValue table row) = row_text (field_name (FallbackTable table)) row (codes "bad value")
 fallback_text locales.NoMemory = fallback.words_of locales.NoMemory
 
+-- the fault of a table
 abbrev pub table_text : TableCause → List ℕ
 table_text (table.Registry error) = registry_text error
 table_text (table.Fallback error) = fallback_text error
 
+-- what is wrong with a bundle
 abbrev pub bundle_text : BundleCause → List ℕ
 bundle_text (bundle.Tag cause) = codes "tag: " ++ wanted.words_of cause
 bundle_text (bundle.Mo error) = codes "catalog: " ++ catalogs.words_of error
 bundle_text (bundle.List error) = codes "list: " ++ lists.words_of error
 
+-- what is wrong with a request
 abbrev pub request_text : RequestCause → List ℕ
 request_text (request.Tag cause) = codes "tag: " ++ wanted.words_of cause
 request_text request.ChainLoops = codes "fallback loops"
