@@ -6,4 +6,5 @@ mod OneTables
 mod SameRows
 mod TableStatuses
 mod TagBytes
+mod Words
 mod Written
