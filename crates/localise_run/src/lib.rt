@@ -27,11 +27,11 @@ mod generate;
 pub mod laws;
 mod prepare;
 mod render;
+mod running;
 mod tags;
 mod walk;
 
 pub use command::Command;
-pub use localise_status::{
-    Field, RequestCause, Section, ShapePlace, Status, TableCause,
-};
+pub use localise_status::{Field, RequestCause, Section, ShapePlace, Status, TableCause};
+pub use running::{run, run_and_flush};
 
