@@ -105,7 +105,7 @@ fn remake(alloc: Global, request: &mut Request, number: u32) -> Result<(), Alloc
     ensures { OnOk result (request.new ≡ made_from number request.old) }
 {
     let mut items = TextList::new(alloc);
-    for _ in 0..number % 4 {
+    for _item in 0..number % 4 {
         items.push(OwnedText::new(alloc, "x")?)?;
     }
     request.count = (number % 3) as u64;
@@ -140,7 +140,8 @@ fn write_counted<O: Sink>(counted: &Counted, out: &mut O) -> Result<(), SinkErro
 {
     write_number("requests ", &counted.requests, out)?;
     write_number("bytes ", &counted.bytes, out)?;
-    write_number("visited ", &counted.visited, out)
+    write_number("visited ", &counted.visited, out)?;
+    Ok(())
 }
 
 /// Writes a word, a number and a line feed.
@@ -157,5 +158,6 @@ fn write_number<N: Writeable, O: Sink>(
 {
     out.push_str(word)?;
     number.write_to(out)?;
-    out.push_char('\n')
+    out.push_char('\n')?;
+    Ok(())
 }

@@ -73,7 +73,7 @@ pub fn run<S: Source, O: Sink, E: Sink>(
 
 /// Runs over a writer that may hold back what it takes, and flushes it at the end. Where that fails
 /// the answer is `WriteFault`, whatever the run's was.
-pub fn run_and_flush<S: Source, W: Write, E: Sink>(
+pub fn run_and_flush<S: Source, W: Write + Drop, E: Sink>(
     alloc: Global,
     words: &[String],
     source: &mut S,
@@ -163,7 +163,7 @@ fn of_reading(error: ReadError) -> Status
 /// Runs a command over the bytes of a document.
 fn run_over<O: Sink>(alloc: Global, command: Command, bytes: Vec<u8>, out: &mut O) -> Status
     requires { length bytes.items ≤ most_bytes }
-    ensures { Gives O.took (Says command bytes.items) (SaysFirst command bytes.items)
+    ensures gives { Gives O.took (Says command bytes.items) (SaysFirst command bytes.items)
         (written O.faults out.old out.new) result }
     ensures read { IsOfBytes result }
 {
@@ -180,7 +180,7 @@ fn run_document<O: Sink>(
     document: Document,
     out: &mut O,
 ) -> Status
-    ensures { Gives O.took (IsAnswer command document) (IsBegun command document)
+    ensures gives { Gives O.took (IsAnswer command document) (IsBegun command document)
         (written O.faults out.old out.new) result }
     ensures read { IsOfBytes result }
 {
