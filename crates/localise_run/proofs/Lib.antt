@@ -1,3 +1,4 @@
+mod Ascii
 mod FoundLines
 mod Lines
 mod OneAnswer

@@ -1,14 +1,14 @@
 //! `generate`: requests made from those of a document, and three numbers of their lines.
 
 ghost use Rattle.std.specs.Fmt.{decimal};
-ghost use Rattle.std.specs.Prelude.{◌≡◌, ◌≢◌, ◌⊎◌, ◌≤◌, ◌++◌, ◌∷◌, [], ℕ, List, IfErr, IfOk, OnErr, OnOk, length};
-ghost use Rattle.std.specs.Str.{chars};
+ghost use Rattle.std.specs.Prelude.{◌≡◌, ◌≢◌, ◌⊎◌, ◌≤◌, ◌++◌, ◌∷◌, [], true, ℕ, List, IfErr, IfOk, OnErr, OnOk, length};
 ghost use Rattle.localise.specs.Kept.{AreAlike};
 ghost use Rattle.localise.specs.Meaning.{Meaning};
 ghost use Rattle.localise.specs.Views.{meanings, root_of, tables_of};
 ghost use Rattle.localise_run.specs.Generating.{AreCounted, AreGenerated, AreNumbers, made, made_from, three_lines};
 ghost use Rattle.localise_run.specs.Rendering.{AreRendered, IsLine, IsLineFault};
 ghost use Rattle.localise_run.specs.Run.{Gives, written};
+ghost use Rattle.localise_status.specs.Ascii.{in_ascii};
 ghost use Rattle.localise_status.specs.declared.status.Status.{Status as Ended};
 ghost use Rattle.writeable_core.specs.Sink.{HasCause, TookPrefix};
 
@@ -150,10 +150,11 @@ fn write_number<N: Writeable, O: Sink>(
     number: &N,
     out: &mut O,
 ) -> Result<(), SinkError>
+    requires { in_ascii word.now ≡ true }
     ensures ok { OnOk result
-        (O.took out.old (chars word.now ++ (N.text number.now ++ 10 ∷ [])) out.new) }
+        (O.took out.old (word.now ++ (N.text number.now ++ 10 ∷ [])) out.new) }
     ensures err { OnErr result
-        (TookPrefix O.took out.old (chars word.now ++ (N.text number.now ++ 10 ∷ [])) out.new) }
+        (TookPrefix O.took out.old (word.now ++ (N.text number.now ++ 10 ∷ [])) out.new) }
     ensures cause { HasCause (O.faults out.old) (O.faults out.new) (O.takes_memory out.old) result }
 {
     out.push_str(word)?;
