@@ -1,14 +1,13 @@
 -- A document beside the plain facts.
-use Rattle.std.proofs.Common.{◌≡◌, ℕ, List, [], ◌∷◌, codes, map, Option, Some, None, Result, Ok, Err, ok_or, inl, inr, refl, sym, ap, subst, ◌∙◌}
-use Rattle.localise_texts.specs.declared.bundle.BundleText.{BundleText}
+use Rattle.std.proofs.Common.{◌≡◌, List, codes, map, Option, Some, None, Result, Ok, Err, ok_or, inl, inr, refl, sym, ap, subst, ◌∙◌}
 use Rattle.localise_texts.specs.declared.patterns.PatternTexts.{PatternTexts}
 use Rattle.localise_texts.specs.declared.request.Request.{Request}
-use Rattle.serde_json.specs.Data.{Data, null, boolean, number, string, array, object, Members}
+use Rattle.serde_json.specs.Data.{Data, null, boolean, number, string, array, object}
 use Rattle.serde_json.specs.Find.{get_member}
 use Rattle.writeable_core.specs.declared.text.TextRow.{TextRow}
 use Rattle.localise_document.proofs.FactBundles.{bundles_are, bundles_have}
 use Rattle.localise_document.proofs.FactRequests.{request_has, request_is}
-use Rattle.localise_document.proofs.FactSteps.{list_weaker, members_has, needed_list_has, needed_list_is, object_of, some_of}
+use Rattle.localise_document.proofs.FactSteps.{behind, list_weaker, members_has, needed_list_has, needed_list_is, object_of, some_of}
 use Rattle.localise_document.proofs.FactTables.{fallback_has, fallback_is, registry_has, registry_is}
 use Rattle.localise_document.specs.Bundles.{bundle_of, bundle_with}
 use Rattle.localise_document.specs.Contents.{Contents}
@@ -25,6 +24,7 @@ use Rattle.localise_document.specs.declared.place.ShapePlace.{ShapePlace}
 
 -- ---- the root
 
+-- a root that is read has the plain facts
 root_is : (m : Option Data) (p : PatternTexts) → root_of m ≡ Ok p → HasOr default_patterns patterns_of m p
 root_is None p h = let same : p ≡ default_patterns = cc in inl (refl, same)
 root_is (Some null) p h = absurd (cc)
@@ -34,6 +34,7 @@ root_is (Some (string s)) p h = absurd (cc)
 root_is (Some (array ds)) p h = absurd (cc)
 root_is (Some (object ms)) p h = inr (record { value = object ms; there = refl; says = some_of (patterns_of (object ms)) (place_of Root fields.List) p h })
 
+-- what has patterns is an object
 root_value : (d : Data) (p : PatternTexts) → patterns_of d ≡ Some p → root_of (Some d) ≡ Ok p
 unfolding patterns_of
 root_value null p h = absurd (cc)
@@ -43,12 +44,14 @@ root_value (string s) p h = absurd (cc)
 root_value (array ds) p h = absurd (cc)
 root_value (object ms) p h = ap (λ o. ok_or o (place_of Root fields.List)) h
 
+-- a root with the plain facts is read
 root_has : (m : Option Data) (p : PatternTexts) → HasOr default_patterns patterns_of m p → root_of m ≡ Ok p
 root_has m p (inl h) = ap root_of h.0 ∙ ap (λ x. Ok x) (sym h.1)
 root_has m p (inr h) = ap root_of h.there ∙ root_value h.value p h.says
 
 -- ---- sections
 
+-- what is read, or the place that is misshapen
 abbrev Read : Type 0 → Type 0
 Read A = Result A ShapePlace
 
@@ -72,6 +75,7 @@ record Gave (r f : Read (List (List TextRow))) (b : Read (List BundleParts)) (p 
   requests : q ≡ Ok d.requests
   same : map (bundle_with d.root) parts ≡ d.bundles
 
+-- what each section gave
 gave : (r f : Read (List (List TextRow))) (b : Read (List BundleParts)) (p : Read PatternTexts) (q : Read (List Request)) (d : Contents) → from r f b p q ≡ Ok d → Gave r f b p q d
 gave (Err e) f b p q d is = absurd (cc)
 gave (Ok r) (Err e) b p q d is = absurd (cc)
@@ -92,14 +96,11 @@ gave (Ok r) (Ok f) (Ok b) (Ok p) (Ok q) d is =
       same = ap (λ x. map (bundle_with x) b) (sym root_same) ∙ ap (λ (c : Contents). c.bundles) same;
     }
 
-behind : (r : Read Members) (d : Contents) → ((r >>= document_in) ≡ Ok d) → (ms : Members) × (r ≡ Ok ms) × (document_in ms ≡ Ok d)
-behind (Ok ms) d h = (ms, refl, h)
-behind (Err e) d h = absurd (cc)
-
+-- a document that is read has the plain facts
 pub document_is : (value : Data) (d : Contents) → document_of value ≡ Ok d → IsDocumentValue value d
 unfolding document_of document_in
 document_is value d h =
-    let two = behind (members_in document_names (place_of Document Whole) (place_of Document Unknown) value) d h in
+    let two = behind (members_in document_names (place_of Document Whole) (place_of Document Unknown) value) document_in d h in
     let all = gave _ _ _ _ _ d two.2 in
     record {
       members = two.0;
@@ -111,6 +112,7 @@ document_is value d h =
       requests = list_weaker (λ e q. request_of e ≡ Ok q) IsRequest request_is (get_member (codes "requests") two.0) d.requests (needed_list_is request_of Requests (get_member (codes "requests") two.0) d.requests all.requests);
     }
 
+-- a value with the plain facts is read as a document
 pub document_has : (value : Data) (d : Contents) → IsDocumentValue value d → document_of value ≡ Ok d
 unfolding document_of document_in
 document_has value d h =

@@ -1,18 +1,20 @@
 -- A request beside the plain facts.
-use Rattle.std.proofs.Common.{◌≡◌, ℕ, List, [], ◌∷◌, codes, Option, Result, Ok, Err, refl, ap, ◌∙◌}
+use Rattle.std.proofs.Common.{◌≡◌, ℕ, List, [], codes, Option, Result, Ok, Err, ap, ◌∙◌}
 use Rattle.localise_texts.specs.declared.request.Request.{Request}
-use Rattle.serde_json.specs.Data.{Data, Members}
+use Rattle.serde_json.specs.Data.{Data}
 use Rattle.serde_json.specs.Find.{get_member}
-use Rattle.localise_document.proofs.FactSteps.{has_of, needed_has, may_of, optional_may, or_of, or_has, object_of, members_has}
+use Rattle.localise_document.proofs.FactSteps.{behind, has_of, needed_has, may_of, optional_may, or_of, or_has, object_of, members_has}
 use Rattle.localise_document.specs.Facts.{IsRequest}
 use Rattle.localise_document.specs.Requests.{request_in, request_names, request_of}
 use Rattle.localise_document.specs.Shape.{◌>>=◌, count_of, members_in, text_list_of, text_of}
 use Rattle.localise_document.specs.declared.place.Field.{Field}
 use Rattle.localise_document.specs.declared.place.Field.TheVariants.{Whole, Unknown, Tag, Context, Singular, Plural, Count, Placeholder, Items}
 
+-- a text
 abbrev Text : Type 0
 Text = List ℕ
 
+-- what is read, or the field that is misshapen
 abbrev Read : Type 0 → Type 0
 Read A = Result A Field
 
@@ -43,14 +45,11 @@ gave (Ok t) (Ok x) (Ok s) (Ok p) (Ok n) (Ok h) (Ok i) q is =
     let same : made ≡ q = cc in
     (ap (λ (r : Request). Ok r.tag) same, ap (λ (r : Request). Ok r.context) same, ap (λ (r : Request). Ok r.singular) same, ap (λ (r : Request). Ok r.plural) same, ap (λ (r : Request). Ok r.count) same, ap (λ (r : Request). Ok r.placeholder) same, ap (λ (r : Request). Ok r.items) same)
 
-behind : (r : Read Members) (q : Request) → ((r >>= request_in) ≡ Ok q) → (ms : Members) × (r ≡ Ok ms) × (request_in ms ≡ Ok q)
-behind (Ok ms) q h = (ms, refl, h)
-behind (Err e) q h = absurd (cc)
-
+-- a request that is read has the plain facts
 pub request_is : (value : Data) (q : Request) → request_of value ≡ Ok q → IsRequest value q
 unfolding request_of request_in
 request_is value q h =
-    let two = behind (members_in request_names Whole Unknown value) q h in
+    let two = behind (members_in request_names Whole Unknown value) request_in q h in
     let all = gave _ _ _ _ _ _ _ q two.2 in
     record {
       members = two.0;
@@ -64,6 +63,7 @@ request_is value q h =
       items = or_of [] text_list_of Items _ _ all.6;
     }
 
+-- a value with the plain facts is read as a request
 pub request_has : (value : Data) (q : Request) → IsRequest value q → request_of value ≡ Ok q
 unfolding request_of request_in
 request_has value q h =

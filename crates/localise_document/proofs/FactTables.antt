@@ -1,12 +1,12 @@
 -- Tables beside the plain facts.
 use Rattle.std.proofs.Common.{◌≡◌, ℕ, List, [], ◌∷◌, codes, map, Option, Some, None, Result, Ok, Err, Bool, true, false, cond, eqb, inl, inr, refl, sym, ap, ◌∙◌}
 use Rattle.std.proofs.lemmas.Bool.{eqb-true, eq-eqb}
-use Rattle.serde_json.specs.Data.{Data, null, boolean, number, string, array, object, Items, Members}
+use Rattle.serde_json.specs.Data.{Data, null, boolean, number, string, array, object, Members}
 use Rattle.serde_json.specs.Events.{items_len}
 use Rattle.serde_json.specs.Find.{get_item, get_member}
 use Rattle.writeable_core.specs.declared.text.TextRow.{TextRow}
-use Rattle.localise_document.proofs.FactSteps.{list_is, list_weaker, rows_have, rows_weaker, section_has, section_is, some_of}
-use Rattle.localise_document.specs.Facts.{AreTables, AreTablesOf, IsListOf, IsTable, IsTableRow, fallback_cells, registry_cells}
+use Rattle.localise_document.proofs.FactSteps.{behind, list_is, list_weaker, rows_have, rows_weaker, section_has, section_is, some_of}
+use Rattle.localise_document.specs.Facts.{AreTables, AreTablesOf, IsTable, IsTableRow, fallback_cells, registry_cells}
 use Rattle.localise_document.specs.Names.{fallback_names, registry_names}
 use Rattle.localise_document.specs.Shape.{◌>>=◌}
 use Rattle.localise_document.specs.Tables.{cell_of, cells_of, fallback_in, fallback_of, registry_in, registry_of, row_from, row_of, section_of, table_of}
@@ -18,10 +18,12 @@ use Rattle.localise_document.specs.declared.place.ShapePlace.{ShapePlace}
 
 -- ---- rows
 
+-- so many cells
 counted : (b : Bool) (o : Option TextRow) (row : TextRow) → cond b o None ≡ Some row → (b ≡ true) × (o ≡ Some row)
 counted true o row h = (refl, h)
 counted false o row h = absurd (cc)
 
+-- three texts, where a row is made of them
 three : (a b c : Option (List ℕ)) (row : TextRow) → row_from a b c ≡ Some row → (a ≡ Some row.first) × (b ≡ Some row.second) × (c ≡ Some row.third)
 three (Some a) (Some b) (Some c) row h =
     let made : TextRow = record { first = a; second = b; third = c } in
@@ -31,6 +33,7 @@ three (Some a) (Some b) None row h = absurd (cc)
 three (Some a) None c row h = absurd (cc)
 three None b c row h = absurd (cc)
 
+-- a row that is read has the plain facts
 row_is : (cells : ℕ) (field : Field) (d : Data) (row : TextRow) → row_of cells field d ≡ Ok row → IsTableRow cells d row
 row_is cells field null row h = absurd (cc)
 row_is cells field (boolean b) row h = absurd (cc)
@@ -42,16 +45,19 @@ row_is cells field (array ds) row h =
     let all = three _ _ _ row two.1 in
     record { items = ds; is_list = refl; count = eqb-true (items_len ds) cells two.0; first = all.0; second = all.1; third = all.2 }
 
+-- a row with the plain facts is read
 row_has : (cells : ℕ) (field : Field) (d : Data) (row : TextRow) → IsTableRow cells d row → row_of cells field d ≡ Ok row
 row_has cells field d row h = ap (row_of cells field) h.is_list ∙ rw (eq-eqb (items_len h.items) cells h.count, h.first, h.second, h.third)
 
 -- ---- tables
 
+-- a table that is read has the plain facts
 table_is : (section : Section) (field : Field) (cells : ℕ) (m : Option Data) (rows : List TextRow) → table_of section field cells m ≡ Ok rows → IsTable cells m rows
 table_is section field cells None rows h = let same : rows ≡ [] = cc in inl (refl, same)
 table_is section field cells (Some d) rows h =
     inr (list_weaker (λ e a. row_of cells field e ≡ Ok a) (IsTableRow cells) (row_is cells field) (Some d) rows (list_is (row_of cells field) section field d rows h))
 
+-- a table with the plain facts is read
 table_has : (section : Section) (field : Field) (cells : ℕ) (m : Option Data) (rows : List TextRow) → IsTable cells m rows → table_of section field cells m ≡ Ok rows
 table_has section field cells m rows (inl h) = ap (table_of section field cells) h.0 ∙ ap (λ x. Ok x) (sym h.1)
 table_has section field cells m rows (inr h) =
@@ -60,6 +66,7 @@ table_has section field cells m rows (inr h) =
 
 -- ---- tables one after another
 
+-- the rows of a table, or the place that is misshapen
 abbrev Read : Type 0
 Read = Result (List TextRow) ShapePlace
 
@@ -76,15 +83,18 @@ abbrev reads : Section → List (List ℕ × ℕ × Field) → Members → List 
 reads section [] ms = []
 reads section (t ∷ ts) ms = table_of section t.2 t.1 (get_member t.0 ms) ∷ reads section ts ms
 
+-- their names and numbers of cells
 abbrev cells_only : List (List ℕ × ℕ × Field) → List (List ℕ × ℕ)
 cells_only ts = map (λ t. (t.0, t.1)) ts
 
+-- a first table and the others, where all are read
 two_steps : (r : Read) (rest : Result (List (List TextRow)) ShapePlace) (lists : List (List TextRow)) → ((r >>= λ a. rest >>= λ more. Ok (a ∷ more)) ≡ Ok lists)
     → (a : List TextRow) × (more : List (List TextRow)) × (r ≡ Ok a) × (rest ≡ Ok more) × (lists ≡ a ∷ more)
 two_steps (Err e) rest lists h = absurd (cc)
 two_steps (Ok a) (Err e) lists h = absurd (cc)
 two_steps (Ok a) (Ok more) lists h = let same : lists ≡ a ∷ more = cc in (a, more, refl, refl, same)
 
+-- tables that are read have the plain facts
 tables_are : (section : Section) (ts : List (List ℕ × ℕ × Field)) (ms : Members) (lists : List (List TextRow)) → all_of (reads section ts ms) ≡ Ok lists → AreTables (cells_only ts) ms lists
 tables_are section [] ms [] h = tt
 tables_are section [] ms (rows ∷ lists) h = absurd (cc)
@@ -98,6 +108,7 @@ tables_are section (t ∷ ts) ms (rows ∷ lists) h =
     let others : two.1 ≡ lists = cc in
     (table_is section t.2 t.1 (get_member t.0 ms) rows (two.2 ∙ ap (λ x. Ok x) first), tables_are section ts ms lists (two.3 ∙ ap (λ x. Ok x) others))
 
+-- tables with the plain facts are read
 tables_have : (section : Section) (ts : List (List ℕ × ℕ × Field)) (ms : Members) (lists : List (List TextRow)) → AreTables (cells_only ts) ms lists → all_of (reads section ts ms) ≡ Ok lists
 tables_have section [] ms [] h = refl
 tables_have section [] ms (rows ∷ lists) h = absurd h
@@ -123,6 +134,7 @@ thirteen r0 r1 r2 r3 r4 r5 r6 r7 r8 r9 r10 r11 r12 = do
   a12 ← r12
   Ok (a0 ∷ a1 ∷ a2 ∷ a3 ∷ a4 ∷ a5 ∷ a6 ∷ a7 ∷ a8 ∷ a9 ∷ a10 ∷ a11 ∷ a12 ∷ [])
 
+-- they are each of them
 thirteen_all : (r0 r1 r2 r3 r4 r5 r6 r7 r8 r9 r10 r11 r12 : Read) → thirteen r0 r1 r2 r3 r4 r5 r6 r7 r8 r9 r10 r11 r12 ≡ all_of (r0 ∷ r1 ∷ r2 ∷ r3 ∷ r4 ∷ r5 ∷ r6 ∷ r7 ∷ r8 ∷ r9 ∷ r10 ∷ r11 ∷ r12 ∷ [])
 thirteen_all (Err e) r1 r2 r3 r4 r5 r6 r7 r8 r9 r10 r11 r12 = refl
 thirteen_all (Ok a0) (Err e) r2 r3 r4 r5 r6 r7 r8 r9 r10 r11 r12 = refl
@@ -148,6 +160,7 @@ four r0 r1 r2 r3 = do
   a3 ← r3
   Ok (a0 ∷ a1 ∷ a2 ∷ a3 ∷ [])
 
+-- they are each of them
 four_all : (r0 r1 r2 r3 : Read) → four r0 r1 r2 r3 ≡ all_of (r0 ∷ r1 ∷ r2 ∷ r3 ∷ [])
 four_all (Err e) r1 r2 r3 = refl
 four_all (Ok a0) (Err e) r2 r3 = refl
@@ -182,20 +195,19 @@ fallback_shapes =
     ∷ (codes "parents", 2, FallbackTable 3)
     ∷ []
 
+-- the registry's tables are each of these
 registry_in_all : (ms : Members) → registry_in ms ≡ all_of (reads Registry registry_shapes ms)
 unfolding registry_in
 registry_in_all ms = thirteen_all _ _ _ _ _ _ _ _ _ _ _ _ _
 
+-- the tables of fallback are each of these
 fallback_in_all : (ms : Members) → fallback_in ms ≡ all_of (reads Fallback fallback_shapes ms)
 unfolding fallback_in
 fallback_in_all ms = four_all _ _ _ _
 
 -- ---- sections
 
-behind : (r : Result Members ShapePlace) (f : Members → Result (List (List TextRow)) ShapePlace) (lists : List (List TextRow)) → ((r >>= f) ≡ Ok lists) → (ms : Members) × (r ≡ Ok ms) × (f ms ≡ Ok lists)
-behind (Ok ms) f lists h = (ms, refl, h)
-behind (Err e) f lists h = absurd (cc)
-
+-- a registry that is read has the plain facts
 pub registry_is : (m : Option Data) (lists : List (List TextRow)) → registry_of m ≡ Ok lists → AreTablesOf registry_names registry_cells m lists
 unfolding registry_of
 registry_is m lists h =
@@ -206,12 +218,14 @@ registry_is m lists h =
       are = tables_are Registry registry_shapes two.0 lists (sym (registry_in_all two.0) ∙ two.2);
     }
 
+-- a section with the plain facts is read as a registry
 pub registry_has : (m : Option Data) (lists : List (List TextRow)) → AreTablesOf registry_names registry_cells m lists → registry_of m ≡ Ok lists
 unfolding registry_of
 registry_has m lists h =
     ap (λ r. r >>= registry_in) (section_has Registry registry_names m h.members h.has)
     ∙ registry_in_all h.members ∙ tables_have Registry registry_shapes h.members lists h.are
 
+-- tables of fallback that are read have the plain facts
 pub fallback_is : (m : Option Data) (lists : List (List TextRow)) → fallback_of m ≡ Ok lists → AreTablesOf fallback_names fallback_cells m lists
 unfolding fallback_of
 fallback_is m lists h =
@@ -222,6 +236,7 @@ fallback_is m lists h =
       are = tables_are Fallback fallback_shapes two.0 lists (sym (fallback_in_all two.0) ∙ two.2);
     }
 
+-- a section with the plain facts is read as tables of fallback
 pub fallback_has : (m : Option Data) (lists : List (List TextRow)) → AreTablesOf fallback_names fallback_cells m lists → fallback_of m ≡ Ok lists
 unfolding fallback_of
 fallback_has m lists h =

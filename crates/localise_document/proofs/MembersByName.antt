@@ -13,9 +13,11 @@ use Rattle.serde_json.specs.View.{view, members_view}
 use Rattle.serde_json.specs.declared.value.Value.{Value}
 use Rattle.localise_document.specs.Members.{texts, are_distinct, has_only}
 
+-- a name, as a text
 pub text_at : (names : List (Bor (List ℕ))) (i : ℕ) (d : Bor (List ℕ)) → i < length names → get_or (texts names) i [] ≡ (get_or names i d).now
 text_at names i d within = get_or-map (λ name. name.now) names i d [] within
 
+-- no name is the key
 pub none_of : (key : List ℕ) (names : List (Bor (List ℕ))) (n : ℕ) → length names ≤ n → ((k : ℕ) → k < n → bytes_eq key (get_or (texts names) k []) ≡ false)
     → list_any (bytes_eq key) (texts names) ≡ false
 none_of key [] n all h = refl
@@ -49,6 +51,7 @@ untouched (name ∷ names) key d ms none =
     neither true h = absurd (true≢false h)
     neither false h = (refl, h)
 
+-- a test that fails and one that holds
 both : (a b : Bool) → (not a && b) ≡ true → (a ≡ false) × (b ≡ true)
 both true b h = absurd (true≢false (sym h))
 both false b h = (refl, h)
@@ -72,15 +75,18 @@ pub record IsRead (names : List (List ℕ)) (all left : List Entry) (slots : Lis
   pub known : has_only names (members_view all) ≡ has_only names (members_view left)
   pub held : map (option_map view) slots ≡ of_names (members_view done) names
 
+-- empty slots hold nothing
 none_yet : (names : List (List ℕ)) (slots : List (Option Value)) → length slots ≡ length names → All (λ slot. slot ≡ None) slots → map (option_map view) slots ≡ of_names no_members names
 none_yet [] [] long h = refl
 none_yet [] (slot ∷ slots) long h = absurd (omega arith)
 none_yet (name ∷ names) [] long h = absurd (omega arith)
 none_yet (name ∷ names) (slot ∷ slots) long h = ap₂ (λ x xs. x ∷ xs) (ap (option_map view) (h 0 slot (omega arith))) (none_yet names slots (omega arith) (λ k d less. h (suc k) d (omega arith)))
 
+-- before the first entry
 pub none_read : (names : List (List ℕ)) (all : List Entry) (slots : List (Option Value)) → length slots ≡ length names → All (λ slot. slot ≡ None) slots → IsRead names all all slots
 none_read names all slots long empty = record { done = []; rest = refl; known = refl; held = none_yet names slots long empty }
 
+-- behind an entry whose key is a name
 pub one_read : (names : List (List ℕ)) (all : List Entry) (e : Entry) (left : List Entry) (slots : List (Option Value)) (i : ℕ) → IsStrictlySortedBy string_cmp (keys_of all) → are_distinct names ≡ true
     → i < length names → get_or names i [] ≡ string_bytes e.0 → IsRead names all (e ∷ left) slots → IsRead names all left (set slots i (Some e.1))
 one_read names all e left slots i ordered apart within is r =
@@ -92,10 +98,12 @@ one_read names all e left slots i ordered apart within is r =
       held = map-set (option_map view) slots i (Some e.1) ∙ ap (λ xs. set xs i (Some (view e.1))) r.held ∙ filled names i (string_bytes e.0) (view e.1) (members_view r.done) apart within is ∙ ap (λ ms. of_names ms names) last;
     }
 
+-- an entry whose key is no name
 pub one_refused : (names : List (List ℕ)) (all : List Entry) (e : Entry) (left : List Entry) (slots : List (Option Value)) → list_any (bytes_eq (string_bytes e.0)) names ≡ false → IsRead names all (e ∷ left) slots
     → has_only names (members_view all) ≡ false
 one_refused names all e left slots none r = r.known ∙ ap (λ b. b && has_only names (members_view left)) none
 
+-- behind the last entry
 pub all_read : (names : List (List ℕ)) (all : List Entry) (slots : List (Option Value)) → IsRead names all [] slots
     → (has_only names (members_view all) ≡ true) × (map (option_map view) slots ≡ of_names (members_view all) names)
 all_read names all slots r = (r.known, r.held ∙ ap (λ es. of_names (members_view es) names) (sym (r.rest ∙ append-nil r.done)))

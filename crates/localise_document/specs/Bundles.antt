@@ -1,5 +1,5 @@
 -- A bundle of a document.
-use Rattle.std.specs.Prelude.{ℕ, List, [], ◌∷◌, codes, Option, Some, None, Result, Ok, Err}
+use Rattle.std.specs.Prelude.{ℕ, List, [], ◌∷◌, codes, Option, Some, None, Result, Ok}
 use Rattle.localise_texts.specs.declared.bundle.BundleText.{BundleText}
 use Rattle.localise_texts.specs.declared.patterns.PatternTexts.{PatternTexts}
 use Rattle.serde_json.specs.Data.{Data, Members}

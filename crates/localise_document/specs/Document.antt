@@ -14,10 +14,8 @@ use Rattle.localise_document.specs.Shape.{◌>>=◌, members_in, needed_list, pl
 use Rattle.localise_document.specs.Tables.{fallback_of, registry_of}
 use Rattle.localise_document.specs.declared.error.DocumentError.{DocumentError}
 use Rattle.localise_document.specs.declared.error.DocumentError.TheVariants.{NotJson, Shape, NoMemory}
-use Rattle.localise_document.specs.declared.place.Field.{Field}
 use Rattle.localise_document.specs.declared.place.Field.TheVariants.{Whole, Unknown}
 use Rattle.localise_document.specs.declared.place.Field.TheVariants as fields
-use Rattle.localise_document.specs.declared.place.Section.{Section}
 use Rattle.localise_document.specs.declared.place.Section.TheVariants.{Document, Bundles, Root, Requests}
 use Rattle.localise_document.specs.declared.place.ShapePlace.{ShapePlace}
 

@@ -11,4 +11,3 @@ pub mod Patterns
 pub mod Requests
 pub mod Shape
 pub mod Tables
-pub mod Taken

@@ -4,11 +4,13 @@ use Rattle.serde_json.specs.Data.{Data, Members, object}
 use Rattle.serde_json.specs.Find.{get_member}
 use Rattle.serde_json.specs.View.{view}
 use Rattle.localise_document.specs.Bundles.{bundle_names}
+use Rattle.localise_document.specs.Document.{document_names}
 use Rattle.localise_document.specs.Members.{has_only}
 use Rattle.localise_document.specs.Names.{fallback_names, registry_names}
 use Rattle.localise_document.specs.Requests.{request_names}
 use Rattle.localise_document.specs.Tables.{section_of}
 use Rattle.localise_document.specs.declared.bundles.BundleMembers.{BundleMembers}
+use Rattle.localise_document.specs.declared.document.DocumentMembers.{DocumentMembers}
 use Rattle.localise_document.specs.declared.place.Section.TheVariants.{Registry, Fallback}
 use Rattle.localise_document.specs.declared.requests.RequestMembers.{RequestMembers}
 use Rattle.localise_document.specs.declared.tables.FallbackMembers.{FallbackMembers}
@@ -70,3 +72,14 @@ pub record IsFallbackSection (section : Option Data) (taken : FallbackMembers) :
   pub members : Members
   pub read : section_of Fallback fallback_names section ≡ Ok members
   pub has : HasFallbackMembers members taken
+
+-- the value is an object of a document's members, and these are they
+pub record IsDocumentObject (d : Data) (taken : DocumentMembers) : Type 0 where
+  pub members : Members
+  pub is_object : d ≡ object members
+  pub known : has_only document_names members ≡ true
+  pub registry : option_map view taken.registry ≡ get_member (codes "registry") members
+  pub fallback : option_map view taken.fallback ≡ get_member (codes "fallback") members
+  pub bundles : option_map view taken.bundles ≡ get_member (codes "bundles") members
+  pub root : option_map view taken.root ≡ get_member (codes "root") members
+  pub requests : option_map view taken.requests ≡ get_member (codes "requests") members

@@ -1,5 +1,5 @@
 -- The tables of a document: lists of rows of texts.
-use Rattle.std.specs.Prelude.{ℕ, ◌==◌, List, [], ◌∷◌, codes, Option, Some, None, Result, Ok, Err, ok_or, if◌then◌else◌, option_and_then}
+use Rattle.std.specs.Prelude.{ℕ, ◌==◌, List, [], ◌∷◌, codes, Option, Some, None, Result, Ok, ok_or, if◌then◌else◌, option_and_then}
 use Rattle.serde_json.specs.Data.{Data, Items, Members, no_members}
 use Rattle.serde_json.specs.Events.{items_len}
 use Rattle.serde_json.specs.Find.{as_array, get_item, get_member}
@@ -63,8 +63,8 @@ registry_in ms = do
   grandfathereds_preferred ← table_of Registry (RegistryTable 11) 2 (get_member (codes "grandfathereds_preferred") ms)
   redundants_preferred ← table_of Registry (RegistryTable 12) 2 (get_member (codes "redundants_preferred") ms)
   Ok (languages ∷ languages_preferred ∷ languages_suppress_script ∷ extlangs ∷ extlangs_preferred
-    ∷ scripts ∷ scripts_preferred ∷ regions ∷ regions_preferred ∷ variants ∷ variants_preferred
-    ∷ grandfathereds_preferred ∷ redundants_preferred ∷ [])
+      ∷ scripts ∷ scripts_preferred ∷ regions ∷ regions_preferred ∷ variants ∷ variants_preferred
+      ∷ grandfathereds_preferred ∷ redundants_preferred ∷ [])
 
 -- the tables of fallback in order, of three cells but for the last
 unfoldable pub fallback_in : Members → Result (List (List TextRow)) ShapePlace

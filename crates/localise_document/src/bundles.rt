@@ -1,6 +1,6 @@
 ghost use Rattle.std.specs.Prelude.{◌≡◌, Err, Ok, map, IfErr, IfOk};
 ghost use Rattle.serde_json.specs.View.{view};
-ghost use Rattle.localise_document.specs.Bundles.{bundle_in, bundle_of, bundle_with, patterns_or};
+ghost use Rattle.localise_document.specs.Bundles.{bundle_of, bundle_with, patterns_or};
 ghost use Rattle.localise_document.specs.Objects.{IsBundleObject};
 ghost use Rattle.localise_document.specs.Misread.{IsFaultOf};
 
@@ -56,10 +56,11 @@ fn members_from(value: Value) -> Result<BundleMembers, Field>
     let Some(mut slots) = members_by_name::<3>(members, &["list", "mo", "tag"]) else {
         return Err(Field::Unknown);
     };
-    let list = slots[0].take();
-    let mo = slots[1].take();
-    let tag = slots[2].take();
-    Ok(BundleMembers { tag, mo, list })
+    Ok(BundleMembers {
+        tag: slots[2].take(),
+        mo: slots[1].take(),
+        list: slots[0].take(),
+    })
 }
 
 /// The bundle that a value is.

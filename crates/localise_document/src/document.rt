@@ -1,9 +1,8 @@
 ghost use Rattle.std.specs.Prelude.{◌≡◌, ◌≢◌, Err, Ok, Some, option_map, IfErr, IfOk};
 ghost use Rattle.serde_json.specs.View.{view};
-ghost use Rattle.localise_document.specs.Contents.{fallback_lists, registry_lists};
-ghost use Rattle.localise_document.specs.Document.{IsDocument, IsDocumentFault, document_in, document_of, json_of, root_of};
+ghost use Rattle.localise_document.specs.Document.{IsDocument, IsDocumentFault, document_of, json_of, root_of};
 ghost use Rattle.localise_document.specs.Misread.{IsFaultOf};
-ghost use Rattle.localise_document.specs.Taken.{IsDocumentObject};
+ghost use Rattle.localise_document.specs.Objects.{IsDocumentObject};
 ghost use Rattle.localise_document.specs.declared.error.DocumentError.TheVariants.{NoMemory, NotJson};
 
 use crate::bundles::{BundleReader, with_root};
@@ -42,11 +41,12 @@ impl Model for Document {
     ghost Value = { Contents };
 
     ghost view = { λ d. record {
-        registry = registry_lists d.registry;
-        fallback = fallback_lists d.fallback;
-        bundles = d.bundles.items;
-        root = d.root;
-        requests = d.requests.items } };
+      registry = registry_lists d.registry;
+      fallback = fallback_lists d.fallback;
+      bundles = d.bundles.items;
+      root = d.root;
+      requests = d.requests.items;
+    } };
 }
 
 /// The document that bytes are as JSON, or why they are none: they are no JSON, or the first
@@ -97,17 +97,12 @@ fn members_from(value: Value) -> Result<DocumentMembers, ShapePlace>
     let Some(mut slots) = members_by_name::<5>(members, &names) else {
         return Err(ShapePlace::of_section(Section::Document, Field::Unknown));
     };
-    let bundles = slots[0].take();
-    let fallback = slots[1].take();
-    let registry = slots[2].take();
-    let requests = slots[3].take();
-    let root = slots[4].take();
     Ok(DocumentMembers {
-        registry,
-        fallback,
-        bundles,
-        root,
-        requests,
+        registry: slots[2].take(),
+        fallback: slots[1].take(),
+        bundles: slots[0].take(),
+        root: slots[4].take(),
+        requests: slots[3].take(),
     })
 }
 

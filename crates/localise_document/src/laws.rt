@@ -10,10 +10,12 @@ ghost use Rattle.localise_document.specs.Requests.{request_of};
 
 /// A value is a document that says this exactly where its members do.
 pub fn document_is_its_members()
-    ensures { (value : Data) (d : Contents) → (document_of value ≡ Ok d) ↔ IsDocumentValue value d }
+    ensures { (value : Data) (d : Contents) →
+        (document_of value ≡ Ok d) ↔ IsDocumentValue value d }
 {}
 
 /// A value is a request that says this exactly where its members do.
 pub fn request_is_its_members()
-    ensures { (value : Data) (q : Request) → (request_of value ≡ Ok q) ↔ IsRequest value q }
+    ensures { (value : Data) (q : Request) →
+        (request_of value ≡ Ok q) ↔ IsRequest value q }
 {}

@@ -17,6 +17,7 @@
 //! - `rows`: lists of rows, or their first misshapen one.
 //! - `values`: texts, numbers and lists of texts.
 //! - `members`: the members of an object, by name.
+//! - `laws`: a document as plain facts on its members.
 #![tactic(auto)]
 
 mod bundles;

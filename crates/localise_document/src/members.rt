@@ -37,10 +37,11 @@ pub(crate) fn members_by_name<const N: usize>(
 ) -> Option<[Option<Value>; N]>
     requires count { length names.now ≡ N }
     requires distinct { are_distinct (texts names.now) ≡ true }
-    ensures { MatchOption result (has_only (texts names.now) (members_view members.entries) ≡ false) (λ slots.
+    ensures { MatchOption result
+        (has_only (texts names.now) (members_view members.entries) ≡ false) (λ slots.
         (has_only (texts names.now) (members_view members.entries) ≡ true)
         × (map (option_map view) slots
-            ≡ map (λ name. get_member name (members_view members.entries)) (texts names.now))) }
+        ≡ map (λ name. get_member name (members_view members.entries)) (texts names.now))) }
 {
     let mut slots: [Option<Value>; N] = Default::default();
     let mut next = 0;

@@ -2,7 +2,7 @@ ghost use Rattle.std.specs.Prelude.{◌≡◌, Err, Ok, IfErr, IfOk};
 ghost use Rattle.serde_json.specs.View.{view};
 ghost use Rattle.localise_document.specs.Misread.{IsFaultOf};
 ghost use Rattle.localise_document.specs.Objects.{IsRequestObject};
-ghost use Rattle.localise_document.specs.Requests.{request_in, request_of};
+ghost use Rattle.localise_document.specs.Requests.{request_of};
 
 use crate::Field;
 use crate::error::Misread;
@@ -59,21 +59,14 @@ fn members_from(value: Value) -> Result<RequestMembers, Field>
     let Some(mut slots) = members_by_name::<7>(members, &names) else {
         return Err(Field::Unknown);
     };
-    let context = slots[0].take();
-    let count = slots[1].take();
-    let items = slots[2].take();
-    let placeholder = slots[3].take();
-    let plural = slots[4].take();
-    let singular = slots[5].take();
-    let tag = slots[6].take();
     Ok(RequestMembers {
-        tag,
-        context,
-        singular,
-        plural,
-        count,
-        placeholder,
-        items,
+        tag: slots[6].take(),
+        context: slots[0].take(),
+        singular: slots[5].take(),
+        plural: slots[4].take(),
+        count: slots[1].take(),
+        placeholder: slots[3].take(),
+        items: slots[2].take(),
     })
 }
 

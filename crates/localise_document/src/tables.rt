@@ -6,7 +6,7 @@ ghost use Rattle.localise_document.specs.Contents.{fallback_lists, registry_list
 ghost use Rattle.localise_document.specs.Misread.{IsFaultOf};
 ghost use Rattle.localise_document.specs.Names.{fallback_names, registry_names};
 ghost use Rattle.localise_document.specs.Objects.{HasFallbackMembers, HasRegistryMembers, IsFallbackSection, IsRegistrySection};
-ghost use Rattle.localise_document.specs.Tables.{cell_of, cells_of, fallback_in, fallback_of, registry_in, registry_of, row_of, section_of, table_of};
+ghost use Rattle.localise_document.specs.Tables.{cell_of, cells_of, fallback_of, registry_of, row_of, section_of, table_of};
 
 use crate::error::Misread;
 use crate::members::members_by_name;
@@ -76,7 +76,8 @@ fn table_from(
     member: Option<Value>,
 ) -> Result<Result<Vec<TextRow>, ShapePlace>, AllocError>
     ensures { IfOk result (λ rows.
-        result_map_both (λ v. v.items) (λ place. place) rows ≡ table_of section field cells (option_map view member)) }
+        result_map_both (λ v. v.items) (λ place. place) rows
+        ≡ table_of section field cells (option_map view member)) }
 {
     match member {
         None => Ok(Ok(Vec::new(alloc))),
@@ -98,7 +99,13 @@ fn registry_table(
         result_map_both (λ v. v.items) (λ place. place) rows
         ≡ table_of Section.Registry (Field.RegistryTable table) cells (option_map view member)) }
 {
-    table_from(alloc, Section::Registry, Field::RegistryTable(table), cells, member)
+    table_from(
+        alloc,
+        Section::Registry,
+        Field::RegistryTable(table),
+        cells,
+        member,
+    )
 }
 
 /// A table of fallback, by its number.
@@ -112,7 +119,13 @@ fn fallback_table(
         result_map_both (λ v. v.items) (λ place. place) rows
         ≡ table_of Section.Fallback (Field.FallbackTable table) cells (option_map view member)) }
 {
-    table_from(alloc, Section::Fallback, Field::FallbackTable(table), cells, member)
+    table_from(
+        alloc,
+        Section::Fallback,
+        Field::FallbackTable(table),
+        cells,
+        member,
+    )
 }
 
 /// The members of the registry.
@@ -192,33 +205,20 @@ fn registry_members_of(value: Value) -> Result<RegistryMembers, ShapePlace>
     let Some(mut slots) = members_by_name::<13>(members, &names) else {
         return Err(ShapePlace::of_section(Section::Registry, Field::Unknown));
     };
-    let languages = slots[0].take();
-    let languages_preferred = slots[1].take();
-    let languages_suppress_script = slots[2].take();
-    let extlangs = slots[3].take();
-    let extlangs_preferred = slots[4].take();
-    let scripts = slots[5].take();
-    let scripts_preferred = slots[6].take();
-    let regions = slots[7].take();
-    let regions_preferred = slots[8].take();
-    let variants = slots[9].take();
-    let variants_preferred = slots[10].take();
-    let grandfathereds_preferred = slots[11].take();
-    let redundants_preferred = slots[12].take();
     Ok(RegistryMembers {
-        languages,
-        languages_preferred,
-        languages_suppress_script,
-        extlangs,
-        extlangs_preferred,
-        scripts,
-        scripts_preferred,
-        regions,
-        regions_preferred,
-        variants,
-        variants_preferred,
-        grandfathereds_preferred,
-        redundants_preferred,
+        languages: slots[0].take(),
+        languages_preferred: slots[1].take(),
+        languages_suppress_script: slots[2].take(),
+        extlangs: slots[3].take(),
+        extlangs_preferred: slots[4].take(),
+        scripts: slots[5].take(),
+        scripts_preferred: slots[6].take(),
+        regions: slots[7].take(),
+        regions_preferred: slots[8].take(),
+        variants: slots[9].take(),
+        variants_preferred: slots[10].take(),
+        grandfathereds_preferred: slots[11].take(),
+        redundants_preferred: slots[12].take(),
     })
 }
 
@@ -228,7 +228,8 @@ pub(crate) fn registry_from(
     alloc: Global,
     section: Option<Value>,
 ) -> Result<RegistryRows, Misread<ShapePlace>>
-    ensures ok { IfOk result (λ rows. registry_of (option_map view section) ≡ Ok (registry_lists rows)) }
+    ensures ok { IfOk result (λ rows.
+        registry_of (option_map view section) ≡ Ok (registry_lists rows)) }
     ensures err { IfErr result (IsFaultOf (registry_of (option_map view section))) }
 {
     let members = registry_members(section)?;
@@ -299,15 +300,11 @@ fn fallback_members_of(value: Value) -> Result<FallbackMembers, ShapePlace>
     let Some(mut slots) = members_by_name::<4>(members, &names) else {
         return Err(ShapePlace::of_section(Section::Fallback, Field::Unknown));
     };
-    let likely_language = slots[0].take();
-    let likely_language_script = slots[1].take();
-    let likely_language_region = slots[2].take();
-    let parents = slots[3].take();
     Ok(FallbackMembers {
-        likely_language,
-        likely_language_script,
-        likely_language_region,
-        parents,
+        likely_language: slots[0].take(),
+        likely_language_script: slots[1].take(),
+        likely_language_region: slots[2].take(),
+        parents: slots[3].take(),
     })
 }
 
@@ -317,7 +314,8 @@ pub(crate) fn fallback_from(
     alloc: Global,
     section: Option<Value>,
 ) -> Result<FallbackRows, Misread<ShapePlace>>
-    ensures ok { IfOk result (λ rows. fallback_of (option_map view section) ≡ Ok (fallback_lists rows)) }
+    ensures ok { IfOk result (λ rows.
+        fallback_of (option_map view section) ≡ Ok (fallback_lists rows)) }
     ensures err { IfErr result (IsFaultOf (fallback_of (option_map view section))) }
 {
     let members = fallback_members(section)?;

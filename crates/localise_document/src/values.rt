@@ -31,10 +31,7 @@ pub(crate) fn needed_text(member: Option<Value>, field: Field) -> Result<OwnedTe
 }
 
 /// A text that may be absent.
-pub(crate) fn optional_text(
-    member: Option<Value>,
-    field: Field,
-) -> Result<Option<OwnedText>, Field>
+pub(crate) fn optional_text(member: Option<Value>, field: Field) -> Result<Option<OwnedText>, Field>
     ensures { result ≡ optional text_of field (option_map view member) }
 {
     match member {

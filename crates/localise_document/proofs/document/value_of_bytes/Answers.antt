@@ -12,5 +12,5 @@ pub returns-clause-err : goal.returns-clause-err
 returns-clause-err c = λ _. (
   refl,
   ap json_of (sym c.as_slice.ensures.value) ∙ json_of_refused _ (λ utf8. c.in-Err.ensures.err
-  (λ memory. true≢false (sym (c.is_memory.ensures.1 memory) ∙ c.if-is_memory.false)) utf8),
+      (λ memory. true≢false (sym (c.is_memory.ensures.1 memory) ∙ c.if-is_memory.false)) utf8),
 )

@@ -1,6 +1,5 @@
 -- The values that are taken are the row's first three items.
-use Rattle.std.proofs.Common.{◌≡◌, ◌∷◌, length, Some, option_map, sym, ap, ◌∙◌}
-use Rattle.std.specs.Vec.Iter.{into_iter_items}
+use Rattle.std.proofs.Common.{◌≡◌, length, option_map, sym, ap, ◌∙◌}
 use Rattle.serde_json.specs.Find.{get_item}
 use Rattle.serde_json.specs.View.{items_view, view}
 use Rattle.localise_document.specs.Tables.{cell_of}
