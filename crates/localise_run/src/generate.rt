@@ -12,9 +12,8 @@ ghost use Rattle.localise_status.specs.Ascii.{in_ascii};
 ghost use Rattle.localise_status.specs.declared.status.Status.{Status as Ended};
 ghost use Rattle.writeable_core.specs.Sink.{HasCause, TookPrefix};
 
-use crate::render::{of_sink, of_tag};
-use crate::{RequestCause, Status};
-use icu_locale_core::DataLocale;
+use crate::render::{of_sink, of_tag, write_request};
+use crate::Status;
 use localise::{Localiser, Request};
 use std::alloc::{AllocError, Global};
 use wanted_locale::{Tables, wanted};
@@ -46,58 +45,73 @@ pub(crate) fn write_numbers<O: Sink>(
         (AreNumbers tables.now bundles (root_of localiser.now) (made requests.items 0 count))
         (written O.faults out.old out.new) result }
 {
-    match count_lines(alloc, tables, localiser, &mut requests, count) {
-        Ok(counted) => match write_counted(&counted, out) {
-            Ok(()) => Status::Done,
-            Err(error) => of_sink(error),
-        },
-        Err(status) => status,
+    let mut counted = Counted {
+        requests: 0,
+        bytes: 0,
+        visited: 0,
+    };
+    if !requests.is_empty() {
+        let mut lines = CountSink::new();
+        let status =
+            count_lines(alloc, tables, localiser, &mut requests, count, &mut lines, &mut counted.visited);
+        if status != Status::Done {
+            return status;
+        }
+        counted.requests = count;
+        counted.bytes = lines.bytes();
+    }
+    match write_counted(&counted, out) {
+        Ok(()) => Status::Done,
+        Err(error) => of_sink(error),
     }
 }
 
-/// Counts the lines of made requests, up to the first that gets none.
+/// Counts the lines of made requests, up to the first that gets none, and adds up how many locales
+/// are visited for them.
 fn count_lines(
     alloc: Global,
     tables: &Tables,
     localiser: &Localiser<'_>,
     requests: &mut [Request],
     count: u32,
-) -> Result<Counted, Status>
+    lines: &mut CountSink,
+    visited: &mut u128,
+) -> Status
+    requires some { 0 < length requests.old }
     requires tables { tables_of localiser.now ≡ tables.now }
     requires few { count ≤ 1_000_000 }
-    ensures ok { (bundles : List Meaning) → AreAlike (meanings localiser.now) bundles
-        → IfOk result (AreCounted tables.now bundles (root_of localiser.now)
-        (made requests.old 0 count)) }
-    ensures err { (bundles : List Meaning) → AreAlike (meanings localiser.now) bundles
-        → IfErr result (λ status. (status ≡ Ended.NoMemory)
-        ⊎ ((status ≢ Ended.Done) × ((lines : List ℕ)
-        × AreRendered tables.now bundles (root_of localiser.now) (made requests.old 0 count)
-        status lines))) }
+    requires none { visited.old ≡ 0 }
+    ensures lines { (bundles : List Meaning) → AreAlike (meanings localiser.now) bundles
+        → Gives CountSink.took
+        (AreRendered tables.now bundles (root_of localiser.now) (made requests.old 0 count))
+        (BeginRendered tables.now bundles (root_of localiser.now) (made requests.old 0 count))
+        (written CountSink.faults lines.old lines.new) result }
+    ensures visited { (bundles : List Meaning) → AreAlike (meanings localiser.now) bundles
+        → result ≡ Ended.Done → AreVisited tables.now bundles (root_of localiser.now)
+        (made requests.old 0 count) visited.new }
 {
-    let mut counted = Counted {
-        requests: 0,
-        bytes: 0,
-        visited: 0,
-    };
-    if requests.is_empty() {
-        return Ok(counted);
-    }
-    let mut lines = CountSink::new();
     let mut locales = Vec::new(alloc);
     for number in 0..count {
         let place = number as usize % requests.len();
         let request = &mut requests[place];
-        remake(alloc, request, number).map_err(|_| Status::NoMemory)?;
-        if place == locales.len() {
-            let locale = wanted(alloc, tables, request.tag.as_str())
-                .map_err(|cause| of_tag(number as usize, cause))?;
-            locales.push(locale).map_err(|_| Status::NoMemory)?;
+        if remake(alloc, request, number).is_err() {
+            return Status::NoMemory;
         }
-        counted.visited += count_line(localiser, locales[place], number, request, &mut lines)?;
+        if place == locales.len() {
+            let locale = match wanted(alloc, tables, request.tag.as_str()) {
+                Ok(locale) => locale,
+                Err(cause) => return of_tag(number as usize, cause),
+            };
+            if locales.push(locale).is_err() {
+                return Status::NoMemory;
+            }
+        }
+        match write_request(tables, localiser, locales[place], number as usize, request, lines) {
+            Ok(locales) => *visited += locales,
+            Err(status) => return status,
+        }
     }
-    counted.requests = count;
-    counted.bytes = lines.bytes();
-    Ok(counted)
+    Status::Done
 }
 
 /// Gives a request the count and the items of a made request.
@@ -111,23 +125,6 @@ fn remake(alloc: Global, request: &mut Request, number: u32) -> Result<(), Alloc
     request.count = (number % 3) as u64;
     request.items = items;
     Ok(())
-}
-
-/// Counts the line of a made request, and gives how many locales were visited for it.
-fn count_line(
-    localiser: &Localiser<'_>,
-    locale: DataLocale,
-    number: u32,
-    request: &Request,
-    lines: &mut CountSink,
-) -> Result<u128, Status>
-{
-    let Ok(found) = localiser.find(locale, request) else {
-        return Err(Status::Request(number as usize, RequestCause::ChainLoops));
-    };
-    found.write_to(lines).map_err(of_sink)?;
-    lines.push_char('\n').map_err(of_sink)?;
-    Ok(found.visited())
 }
 
 /// Writes the three lines.

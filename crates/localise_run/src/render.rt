@@ -1,10 +1,12 @@
 //! `render`: a localised line for each request.
 
-ghost use Rattle.std.specs.Prelude.{◌≡◌, List, IfErr, OnErr, OnOk};
+ghost use Rattle.std.specs.FinMap as map;
+ghost use Rattle.std.specs.Prelude.{◌≡◌, ◌≤◌, ◌+◌, ◌*◌, List, IfErr, IfOk, OnErr, OnOk};
 ghost use Rattle.localise.specs.Kept.{AreAlike};
 ghost use Rattle.localise.specs.Meaning.{Meaning};
 ghost use Rattle.localise.specs.Views.{meanings, root_of, tables_of};
 ghost use Rattle.localise_run.specs.Causes.{status_of_sink, status_of_tag};
+ghost use Rattle.localise_run.specs.Generating.{Visits};
 ghost use Rattle.localise_run.specs.Rendering.{AreRendered, BeginRendered, IsLine, IsLineFault};
 ghost use Rattle.localise_run.specs.Requests.{line_of};
 ghost use Rattle.localise_run.specs.Run.{Gives, written};
@@ -57,17 +59,21 @@ pub(crate) fn write_lines<O: Sink>(
     Status::Done
 }
 
-/// Writes the line of a request for the locale that its tag asks for.
-fn write_request<O: Sink>(
+/// Writes the line of a request for the locale that its tag asks for, and gives how many locales
+/// were visited for it.
+pub(crate) fn write_request<O: Sink>(
     tables: &Tables,
     localiser: &Localiser<'_>,
     locale: DataLocale,
     number: usize,
     request: &Request,
     out: &mut O,
-) -> Result<(), Status>
+) -> Result<u128, Status>
     requires tables { tables_of localiser.now ≡ tables.now }
     requires wants { Wants tables.now request.now locale }
+    ensures visited { (bundles : List Meaning) → AreAlike (meanings localiser.now) bundles
+        → IfOk result (Visits tables.now bundles (root_of localiser.now) request.now) }
+    ensures bound { IfOk result (λ visited. visited ≤ 4 * map.len tables.now.fallbacker.parents + 6) }
     ensures ok { (bundles : List Meaning) → AreAlike (meanings localiser.now) bundles
         → OnOk result (TookLine O.took (IsLine tables.now bundles (root_of localiser.now))
         (IsLineFault tables.now bundles (root_of localiser.now))
@@ -82,7 +88,7 @@ fn write_request<O: Sink>(
         return Err(Status::Request(number, RequestCause::ChainLoops));
     };
     match write_line(&found, out) {
-        Ok(()) => Ok(()),
+        Ok(()) => Ok(found.visited()),
         Err(error) => Err(of_sink(error)),
     }
 }

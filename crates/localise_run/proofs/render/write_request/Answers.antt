@@ -1,10 +1,12 @@
 -- The line is the localised text and a line feed; or the walk comes round.
-use Rattle.std.proofs.Common.{List, refl, sym, ap, subst}
+use Rattle.std.proofs.Common.{ℕ, ◌≤◌, ◌+◌, ◌*◌, List, refl, sym, ap, subst}
 use Rattle.std.specs.Prelude.{Err}
 use Rattle.localise.specs.Given.{text_given}
 use Rattle.localise.specs.Meaning.{Meaning}
 use Rattle.localise.specs.Views.{root_of, tables_of}
-use Rattle.localise_run.proofs.FoundLines.{found_line, round_fault}
+use Rattle.localise_run.proofs.FoundLines.{found_line, found_visits, round_fault}
+use Rattle.std.specs.FinMap as map
+use Rattle.wanted_locale.specs.declared.tables.Tables.{Tables}
 use Rattle.localise_run.proofs.Written.{sink_fails}
 use Rattle.localise_run.specs.Rendering.{IsLine, IsLineFault}
 use Rattle.localise_run.specs.Requests.{line_of}
@@ -41,3 +43,13 @@ returns-in-Err-clause-err g c = λ bundles alike.
     (sink_fails g.O.Sink.took (IsLine c.args.tables.now bundles (root_of c.args.localiser.now)) (IsLineFault c.args.tables.now bundles (root_of c.args.localiser.now))
     (written g.O.Sink.faults c.args.out.now c.write_line.new.out) c.args.number c.args.request.now
     (line_of (text_given c.in-Ok.found)) c.in-Err.error is c.in-Err.ensures.err (λ fault. c.in-Err.ensures.cause.fault (ap Err fault)))
+
+pub returns-in-Ok-write_line-clause-visited : goal.returns-in-Ok-write_line-clause-visited
+returns-in-Ok-write_line-clause-visited g c = λ bundles alike.
+    found_visits c.args.tables.now (tables_of c.args.localiser.now) c.requires.tables bundles (root_of c.args.localiser.now)
+    c.args.locale c.args.request.now c.requires.wants c.in-Ok.found (c.in-Ok.ensures.ok bundles alike) c.visited.result c.visited.ensures
+
+pub returns-in-Ok-write_line-clause-bound : goal.returns-in-Ok-write_line-clause-bound
+returns-in-Ok-write_line-clause-bound g c =
+    subst (λ (n : ℕ). n ≤ 4 * map.len c.args.tables.now.fallbacker.parents + 6) (sym c.visited.ensures)
+    (subst (λ (V : Tables). c.in-Ok.found.answer.visited ≤ 4 * map.len V.fallbacker.parents + 6) c.requires.tables c.in-Ok.ensures.bound)
