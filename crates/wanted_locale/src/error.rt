@@ -34,6 +34,7 @@ impl TagCause {
             TagCause::NoMemory => "out of memory",
         }
     }
+
     /// The fault of a text that is no tag, as a cause.
     pub(crate) fn of_parse(fault: ParseError) -> TagCause
         ensures { result ≢ TagCause.NoMemory
