@@ -1,8 +1,12 @@
 //! Calls of `localise` and `localise_run`.
 //!
-//! - `localising`: those of `localise`.
-//! - `program`: those of `localise_run`.
+//! - `documents`: localisers and requests, as members of a document.
+//! - `localising`: calls of `localise`.
+//! - `refusals`: refusals by their names.
+//! - `program`: calls of `localise_run`.
 #![tactic(auto)]
 
+mod documents;
 pub mod localising;
 pub mod program;
+mod refusals;

@@ -1,81 +1,136 @@
-//! Calls of localisers. A bundle is an object of `tag` and `mo`.
+//! Calls of localisers. A localiser is an object of a document's members `registry`, `fallback`,
+//! `bundles` and `root`, tables are one of the first two; a request is one of a document's; an error
+//! is said by what is refused with it.
 
+use crate::documents::{document, tables};
+use crate::refusals::{of_render, of_tag};
 use calls::answers;
-use calls::answers::{Answer, Object};
-use calls::arguments::{Wrong, bytes, field, list, member, text};
-use calls_catalogs::metadata;
-use localise::{BundleCause, BundleText, Localiser, MoBytes, RenderError};
+use calls::answers::{Answer, Object, printed};
+use calls::arguments::{Wrong, size, text};
+use icu_locale_core::DataLocale;
+use localise::{ChainLoops, Found, Localiser, RenderError, render};
+use localise_document::Document;
 use serde_json::Value;
 use std::alloc::{AllocError, Global};
-use writeable::OwnedText;
+use writeable::{StringSink, Writeable};
 
 /// A call of `localise`, by its path.
 pub fn answer<'a>(alloc: Global, call: &str, arguments: &'a [Value]) -> Answer<'a> {
     match (call, arguments) {
-        ("Localiser::try_new", [given]) => tried(alloc, given),
-        ("BundleCause::text", [cause]) => Ok(answers::text(alloc, cause_of(cause)?.text())?),
-        ("RenderError::text", [cause]) => {
-            let error = RenderError::Bundle(0, cause_of(cause)?);
-            Ok(answers::text(alloc, error.text())?)
+        ("Localiser::wanted" | "TagCause::text", [given, tag]) => {
+            let document = document(alloc, given, "\"bundles\":[],\"requests\":[]")?;
+            let tables = tables(alloc, given, &document)?;
+            match Localiser::wanted(alloc, &tables, text(tag)?) {
+                Ok(locale) => Ok(printed(alloc, &locale)?),
+                Err(cause) if call == "TagCause::text" => Ok(answers::text(alloc, cause.text())?),
+                Err(cause) => Ok(of_tag(alloc, cause)?),
+            }
         }
+        ("render", [given, request]) => rendered(alloc, given, request),
+        ("ChainLoops::text", []) => Ok(answers::text(alloc, ChainLoops.text())?),
+        (call, [given, others @ ..]) => of_localiser(alloc, call, given, others),
         _ => Err(Wrong::Call),
     }
 }
 
-fn tried<'a>(alloc: Global, given: &'a Value) -> Answer<'a> {
-    let bundles = bundles(alloc, list(given)?)?;
-    if bundles.len() > 1 {
-        return Err(Wrong::Argument(given, "a list of at most one bundle"));
-    }
-    match Localiser::try_new(alloc, &bundles) {
-        Ok(_) => Ok(Value::Null),
-        Err(RenderError::Bundle(bundle, cause)) => Ok(refused_bundle(alloc, bundle, cause)?),
-        Err(RenderError::NoMemory) => Err(Wrong::NoMemory),
+fn of_localiser<'a>(
+    alloc: Global,
+    call: &str,
+    given: &'a Value,
+    others: &'a [Value],
+) -> Answer<'a> {
+    let requests = requests_of(alloc, others)?;
+    let document = document(alloc, given, requests.as_str())?;
+    let tables = tables(alloc, given, &document)?;
+    let localiser = match Localiser::try_new(alloc, &tables, &document.bundles, &document.root) {
+        Ok(localiser) => localiser,
+        Err(error) => return refused(alloc, call, error),
+    };
+    match (call, others) {
+        ("Localiser::try_new", []) => Ok(Value::Null),
+        ("Localiser::bundle_count", []) => Ok(answers::size(localiser.bundle_count())),
+        ("Localiser::catalog", [bundle]) => {
+            let number = size(bundle)?;
+            if number >= localiser.bundle_count() {
+                return Err(Wrong::Argument(bundle, "a bundle's number"));
+            }
+            Ok(answers::bytes(alloc, localiser.catalog(number).buffer())?)
+        }
+        ("Localiser::find", [wanted, _]) => found(alloc, &localiser, wanted, &document),
+        _ => Err(Wrong::Call),
     }
 }
 
-/// The refusal of a bundle, with its cause.
-pub fn refused_bundle(
+/// The member `requests`, of the last argument where there are two.
+fn requests_of<'a>(alloc: Global, others: &'a [Value]) -> Result<String, Wrong<'a>> {
+    match others {
+        [_, request] => {
+            let request = request.to_string(alloc)?;
+            Ok(format!(in alloc; "\"requests\":[{request}]")?)
+        }
+        _ => Ok(String::from_str(alloc, "\"requests\":[]")?),
+    }
+}
+
+fn refused<'a>(alloc: Global, call: &str, error: RenderError) -> Answer<'a> {
+    match (call, error) {
+        ("BundleCause::text", RenderError::Bundle(_, cause)) => {
+            Ok(answers::text(alloc, cause.text())?)
+        }
+        ("RenderError::text", error) => Ok(answers::text(alloc, error.text())?),
+        (_, error) => Ok(of_render(alloc, error)?),
+    }
+}
+
+fn found<'a>(
     alloc: Global,
-    bundle: usize,
-    error: BundleCause,
-) -> Result<Value, AllocError> {
-    let refused = answers::text(alloc, "Bundle")?;
-    let at = answers::list(alloc, [answers::size(bundle)])?;
-    let cause = cause(alloc, error)?;
+    localiser: &Localiser<'_>,
+    wanted: &'a Value,
+    document: &Document,
+) -> Answer<'a> {
+    let Ok(locale) = DataLocale::try_from_str(text(wanted)?) else {
+        return Err(Wrong::Argument(wanted, "a locale"));
+    };
+    let Some(request) = document.requests.first() else {
+        return Err(Wrong::Call);
+    };
+    match localiser.find(locale, request) {
+        Ok(found) => Ok(of_found(alloc, &found)?),
+        Err(ChainLoops) => Ok(answers::refused(alloc, "ChainLoops")?),
+    }
+}
+
+fn of_found(alloc: Global, found: &Found<'_>) -> Result<Value, AllocError> {
+    let written = answers::written(alloc, found)?;
     Ok(
         Object::new(alloc)
-            .with("refused", refused)?
-            .with("at", at)?
-            .with("cause", cause)?
+            .with("written", written)?
+            .with("bundle", answers::optional_size(found.bundle()))?
+            .with("form", answers::optional_size(found.form_number()))?
+            .with("locale", printed(alloc, &found.locale())?)?
+            .with("visited", printed(alloc, &found.visited())?)?
             .value(),
     )
 }
 
-/// What is wrong with a bundle, and the error that says so.
-fn cause(alloc: Global, cause: BundleCause) -> Result<Value, AllocError> {
-    match cause {
-        BundleCause::Mo(error) => {
-            let name = answers::text(alloc, metadata::name(error))?;
-            Ok(Object::new(alloc).with("Mo", name)?.value())
-        }
+fn rendered<'a>(alloc: Global, given: &'a Value, request: &'a Value) -> Answer<'a> {
+    let requests = format!(in alloc; "\"requests\":[{}]", request.to_string(alloc)?)?;
+    let document = document(alloc, given, requests.as_str())?;
+    let tables = tables(alloc, given, &document)?;
+    let Some(request) = document.requests.first() else {
+        return Err(Wrong::Call);
+    };
+    let mut sink = StringSink::new(alloc);
+    match render(alloc, &tables, &document.bundles, &document.root, request, &mut sink) {
+        Ok(rendered) => Ok(
+            Object::new(alloc)
+                .with("text", Value::String(sink.into_string()))?
+                .with("bundle", answers::optional_size(rendered.bundle))?
+                .with("locale", printed(alloc, &rendered.locale)?)?
+                .with("visited", printed(alloc, &rendered.visited)?)?
+                .with("hint", answers::hint(alloc, rendered.hint)?)?
+                .value(),
+        ),
+        Err(error) => Ok(of_render(alloc, error)?),
     }
-}
-
-/// The cause that an argument is.
-pub fn cause_of(given: &Value) -> Result<BundleCause, Wrong<'_>> {
-    match member(given)? {
-        ("Mo", error) => Ok(BundleCause::Mo(metadata::error_of(error)?)),
-        _ => Err(Wrong::Argument(given, "a cause, as {\"Mo\": \"Eof\"},")),
-    }
-}
-
-fn bundles<'a>(alloc: Global, given: &'a [Value]) -> Result<Vec<BundleText>, Wrong<'a>> {
-    let mut bundles = Vec::new(alloc);
-    for each in given {
-        let tag = OwnedText::new(alloc, text(field(each, "tag")?)?)?;
-        let mo = MoBytes::from_vec(bytes(alloc, field(each, "mo")?)?);
-        bundles.push(BundleText { tag, mo })?;
-    }
-    Ok(bundles)
 }

@@ -3,17 +3,19 @@
 //!
 //! A document is a text; an object with the member `most`, which is a source (see
 //! `calls::scripts`); or any other value, which is its own text. A run is answered by its status and
-//! exit code, and by what the output and the error sink took. A status is its name, or
-//! `{"Bundle": [number, cause]}`.
+//! exit code, and by what the output and the error sink took. A status is its name.
 
-use crate::localising::{cause_of, refused_bundle};
 use calls::answers;
 use calls::answers::{Answer, Object};
-use calls::arguments::{Wrong, list, member, numbers, size, text};
+use calls::arguments::{Wrong, list, numbers, text};
 use calls::scripts::{Script, script_of};
-use localise_run::{Status, run};
+use icu_list::DataError;
+use language_tags::RegistryError;
+use localise::BundleCause;
+use localise_run::{Field, RequestCause, Section, ShapePlace, Status, TableCause, run};
 use serde_json::Value;
-use std::alloc::{AllocError, Global};
+use std::alloc::Global;
+use wanted_locale::TagCause;
 use writeable::{ScriptSink, StringSink};
 
 /// A call of `localise_run`, by its path.
@@ -61,7 +63,7 @@ fn run_into<'a>(
     let output = Value::String(out.into_string());
     let errors = Value::String(err.into_string());
     let code = exit_code(status);
-    let status = status_answer(alloc, status)?;
+    let status = answers::text(alloc, name(status))?;
     Ok(
         Object::new(alloc)
             .with("status", status)?
@@ -76,23 +78,25 @@ fn exit_code(status: Status) -> Value {
     answers::number(u64::from(status.code()))
 }
 
-/// The status's name, with the bundle and its cause where one is refused.
-fn status_answer(alloc: Global, status: Status) -> Result<Value, AllocError> {
-    match status {
-        Status::Bundle(bundle, error) => refused_bundle(alloc, bundle, error),
-        _ => answers::text(alloc, name(status)),
-    }
-}
-
-const STATUSES: [Status; 8] = [
+/// A status of each name. Those that carry something carry the first of its kind.
+const STATUSES: [Status; 13] = [
     Status::Done,
     Status::BadWords,
     Status::NotJson,
+    Status::Shape(ShapePlace {
+        section: Section::Document,
+        index: 0,
+        field: Field::Whole,
+    }),
+    Status::Table(TableCause::Registry(RegistryError::BadKey(0, 0))),
+    Status::Bundle(0, BundleCause::Tag(TagCause::NoMemory)),
+    Status::DuplicateLocale(0),
+    Status::Root(DataError::InvalidPattern),
+    Status::Request(0, RequestCause::ChainLoops),
     Status::ReadFault,
     Status::WriteFault,
     Status::NoMemory,
     Status::TooLong,
-    Status::NotBuilt,
 ];
 
 fn name(status: Status) -> &'static str {
@@ -100,16 +104,20 @@ fn name(status: Status) -> &'static str {
         Status::Done => "Done",
         Status::BadWords => "BadWords",
         Status::NotJson => "NotJson",
+        Status::Shape(_) => "Shape",
+        Status::Table(_) => "Table",
         Status::Bundle(..) => "Bundle",
+        Status::DuplicateLocale(_) => "DuplicateLocale",
+        Status::Root(_) => "Root",
+        Status::Request(..) => "Request",
         Status::ReadFault => "ReadFault",
         Status::WriteFault => "WriteFault",
         Status::NoMemory => "NoMemory",
         Status::TooLong => "TooLong",
-        Status::NotBuilt => "NotBuilt",
     }
 }
 
-fn plain_status(given: &Value) -> Result<Status, Wrong<'_>> {
+fn status_of(given: &Value) -> Result<Status, Wrong<'_>> {
     let text = text(given)?;
     for status in STATUSES {
         if name(status) == text {
@@ -117,17 +125,4 @@ fn plain_status(given: &Value) -> Result<Status, Wrong<'_>> {
         }
     }
     Err(Wrong::Argument(given, "the name of a status"))
-}
-
-fn status_of(given: &Value) -> Result<Status, Wrong<'_>> {
-    if given.is_string() {
-        return plain_status(given);
-    }
-    match member(given)? {
-        ("Bundle", inner) => match list(inner)? {
-            [bundle, cause] => Ok(Status::Bundle(size(bundle)?, cause_of(cause)?)),
-            _ => Err(Wrong::Argument(inner, "a list of a bundle's number and a cause")),
-        },
-        _ => Err(Wrong::Argument(given, "a status")),
-    }
 }

@@ -1,2 +1,13 @@
-pub mod Lists
-pub mod Walk
+pub mod Along
+pub mod AlongTables
+pub mod Asking
+pub mod BundleReading
+pub mod GivenText
+pub mod Keeping
+pub mod ListReading
+pub mod OneMeaning
+pub mod OneOutcome
+pub mod Orders
+pub mod Outcomes
+pub mod Placing
+pub mod Rendering

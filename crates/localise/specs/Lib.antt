@@ -1,7 +1,13 @@
 pub mod Bundles
 pub mod Chosen
+pub mod Given
+pub mod GivenLaws
 pub mod Kept
-pub mod Localised
+pub mod Laws
+pub mod Lists
 pub mod Meaning
-pub mod Plain
-pub mod Words
+pub mod Places
+pub mod Read
+pub mod Render
+pub mod Stops
+pub mod Views

@@ -1,8 +1,10 @@
 -- What a bundle means.
-use Rattle.std.specs.Prelude.{ℕ, List}
 use Rattle.gettext.specs.Messages.{Messages}
+use Rattle.icu_list.specs.Patterns.{Patterns}
+use Rattle.icu_locale_core.specs.Locale.{Locale}
 
--- the locale that it is for, and its messages
+-- the locale that it is for, normalised, its messages, and how it joins lists
 pub record Meaning : Type 0 where
-  pub locale : List ℕ
+  pub locale : Locale
   pub messages : Messages
+  pub patterns : Patterns

@@ -1,104 +1,117 @@
-ghost use Rattle.std.specs.Prelude.{◌≡◌, ◌≢◌, Some, None, IfOk, IfErr};
-ghost use Rattle.std.specs.Option.{option_map};
-ghost use Rattle.std.specs.Str.{chars};
-ghost use Rattle.gettext.specs.Faults.{mo_fault};
-ghost use Rattle.writeable_core.specs.Texts.{same_text};
-ghost use Rattle.gettext.specs.Options.{plain_options};
-ghost use Rattle.localise.specs.Bundles.{KeepsMeaning};
-ghost use Rattle.localise.specs.Chosen.{form_in};
-ghost use Rattle.localise.specs.Kept.{meaning_of};
+ghost use Rattle.std.specs.Prelude.{◌≡◌, ◌≢◌, List, IfOk, IfErr};
+ghost use Rattle.localise.specs.Bundles.{IsFaultBehind};
+ghost use Rattle.localise.specs.Chosen.{form_for, numbered};
+ghost use Rattle.localise.specs.Kept.{IsRead};
+ghost use Rattle.localise.specs.Meaning.{Meaning};
+ghost use Rattle.localise.specs.Read.{meaning_of};
+ghost use Rattle.wanted_locale.specs.Normalised.{IsLocaleOf};
+ghost use Rattle.wanted_locale.specs.Wanted.{IsTagCause};
 
-use crate::Request;
-use gettext::{Catalog, Error, Form, one_meaning};
+use crate::RenderError;
+use crate::error::{in_catalog, in_list, in_tag};
+use crate::lists::patterns_of;
+use gettext::{Catalog, Form, one_meaning};
+use icu_list::provider::ListFormatterPatterns;
+use icu_locale_core::DataLocale;
+use icu_locale_fallback::{LocaleFallbackConfig, LocaleFallbackPriority};
+use localise_texts::{BundleText, Request};
 use std::alloc::Global;
 use std::marker::Model;
-use writeable_core::OwnedText;
+use wanted_locale::{Tables, TagCause, wanted};
 
-/// The bytes of an MO file. Contracts see them as a list.
-#[derive(Debug, Drop)]
-pub struct MoBytes {
-    bytes: Vec<u8>,
-}
-
-impl Model for MoBytes {
-    ghost use Rattle.std.specs.Prelude.{ℕ, List};
-
-    ghost Value = { List ℕ };
-
-    ghost view = { λ mo. mo.bytes.items };
-}
-
-impl MoBytes {
-    /// The bytes, without a copy.
-    pub fn from_vec(bytes: Vec<u8>) -> MoBytes
-        ensures { result ≡ bytes.items }
-    {
-        MoBytes { bytes }
-    }
-
-    /// The bytes, without a copy.
-    pub fn into_vec(self) -> Vec<u8>
-        ensures { result.items ≡ self }
-    {
-        self.bytes
-    }
-
-    /// The bytes in order.
-    pub fn as_slice(&self) -> &[u8]
-        ensures { result.now ≡ self.now }
-    {
-        self.bytes.as_slice()
-    }
-}
-
-/// A bundle as it is handed in: the tag of its language and its catalog, not yet read.
-#[derive(Debug, Drop)]
-pub struct BundleText {
-    pub tag: OwnedText,
-    pub mo: MoBytes,
-}
-
-/// A bundle whose catalog is read.
+/// A bundle that is read.
 #[derive(Drop)]
 pub(crate) struct Bundle {
-    locale: OwnedText,
-    catalog: Catalog,
+    pub locale: DataLocale,
+    pub catalog: Catalog,
+    pub patterns: ListFormatterPatterns,
+}
+
+/// A form that a bundle gives a request. Contracts see it as the translation that it is.
+#[derive(Drop)]
+pub(crate) struct Translated<'a> {
+    pub bundle: usize,
+    pub form: Form<'a>,
+    pub patterns: &'a ListFormatterPatterns,
+}
+
+impl<'a> Model for Translated<'a> {
+    ghost use Rattle.std.specs.Str.{chars};
+    ghost use Rattle.localise.specs.Chosen.{Translation};
+
+    ghost Value = { Translation };
+
+    ghost view = { λ t. record {
+      bundle = t.bundle;
+      number = t.form.number;
+      text = chars t.form.text.now;
+      patterns = t.patterns.now;
+    } };
 }
 
 impl Bundle {
-    /// Reads the catalog of a bundle.
-    pub(crate) fn read(alloc: Global, text: &BundleText) -> Result<Bundle, Error>
-        ensures ok { IfOk result (λ bundle. KeepsMeaning text.now (meaning_of bundle)) }
-        ensures accepted { IfOk result (λ _. mo_fault text.now.mo plain_options ≡ None) }
-        ensures err { IfErr result (λ e. e ≢ Error.NoMemory
-            → mo_fault text.now.mo plain_options ≡ Some e) }
+    /// Reads the bundle with this number: its tag, its catalog, its list, in this order.
+    pub fn read(
+        alloc: Global,
+        tables: &Tables,
+        number: usize,
+        text: &BundleText,
+    ) -> Result<Bundle, RenderError>
+        ensures ok { IfOk result (λ b. IsRead tables.now text.now (meaning_of b)) }
+        ensures err { IfErr result (λ e. e ≢ RenderError.NoMemory →
+            (earlier : List Meaning) → IsFaultBehind tables.now earlier number text.now e) }
     {
-        let catalog = Catalog::parse_bytes(alloc, text.mo.as_slice())?;
         one_meaning();
-        let locale = OwnedText::new(alloc, text.tag.as_str()).map_err(|_| Error::NoMemory)?;
-        Ok(Bundle { locale, catalog })
+        let locale = match locale_of(alloc, tables, text.tag.as_str()) {
+            Ok(locale) => locale,
+            Err(cause) => return Err(in_tag(number, cause)),
+        };
+        let catalog = match Catalog::parse_bytes(alloc, text.mo.as_slice()) {
+            Ok(catalog) => catalog,
+            Err(error) => return Err(in_catalog(number, error)),
+        };
+        let patterns = match patterns_of(alloc, &text.list) {
+            Ok(patterns) => patterns,
+            Err(error) => return Err(in_list(number, error)),
+        };
+        Ok(Bundle {
+            locale,
+            catalog,
+            patterns,
+        })
     }
 
-    /// The form that the bundle gives a request in a locale: none where the locale isn't its own.
-    pub(crate) fn form_in(&self, locale: &str, request: &Request) -> Option<Form<'_>>
-        ensures { option_map (λ f. (f.number, chars f.text.now)) result
-            ≡ form_in (meaning_of self.now) request.now (chars locale.now) }
+    /// The form that the bundle, which has this number, gives a request.
+    pub fn translation<'a>(&'a self, number: usize, request: &Request) -> Option<Translated<'a>>
+        ensures { result ≡ numbered number (meaning_of self.now)
+            (form_for (meaning_of self.now) request.now) }
     {
-        if is_same(self.locale.as_str(), locale) {
-            self.catalog.find(
-                request.context_text(),
-                request.singular.as_str(),
-                request.count,
-            )
-        } else {
-            None
-        }
+        let context = request.context_text();
+        let singular = request.singular.as_str();
+        let form = self.catalog.find(context, singular, request.count)?;
+        Some(Translated {
+            bundle: number,
+            form,
+            patterns: &self.patterns,
+        })
     }
 }
 
-/// Whether two texts are one.
-pub(crate) fn is_same(a: &str, b: &str) -> bool
-    ensures { result ≡ same_text (chars a.now) (chars b.now) }
+/// The locale of a bundle with this tag: the one that the tag asks for, normalised.
+fn locale_of(alloc: Global, tables: &Tables, tag: &str) -> Result<DataLocale, TagCause>
+    ensures ok { IfOk result (IsLocaleOf tables.now tag.now) }
+    ensures err { IfErr result (λ cause. cause ≢ TagCause.NoMemory
+        → IsTagCause tables.now.registry tag.now cause) }
 {
-    a == b
+    let wanted = wanted(alloc, tables, tag)?;
+    let config = LocaleFallbackConfig {
+        priority: LocaleFallbackPriority::Language,
+    };
+    Ok(
+        tables
+            .fallbacker
+            .for_config(config)
+            .fallback_for(wanted)
+            .take(),
+    )
 }

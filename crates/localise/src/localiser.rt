@@ -1,71 +1,117 @@
-ghost use Rattle.std.specs.Prelude.{◌≡◌, ◌≢◌, ◌≤◌, length, Some, None, IfOk, IfErr};
-ghost use Rattle.std.specs.Option.{option_map};
-ghost use Rattle.std.specs.Str.{chars};
-ghost use Rattle.localise.specs.Bundles.{Localises, refusal};
-ghost use Rattle.localise.specs.Chosen.{localised, chosen, numbered_from};
-ghost use Rattle.localise.specs.Kept.{meanings};
-ghost use Rattle.localise.specs.Plain.{IsPlain};
+ghost use Rattle.std.specs.Prelude.{◌≡◌, ◌≢◌, ◌≤◌, ◌<◌, ◌+◌, ◌*◌, ◌^◌, length};
+ghost use Rattle.std.specs.Prelude.{IfOk, IfErr, IsSomeAnd, slice_get};
+ghost use Rattle.std.specs.FinMap as map;
+ghost use Rattle.gettext.specs.Table.{messages_of};
+ghost use Rattle.localise.specs.Bundles.{IsBundleFault, IsRefusal};
+ghost use Rattle.localise.specs.Given.{IsFound, IsNotFound};
+ghost use Rattle.localise.specs.Kept.{AreRead, Localises};
+ghost use Rattle.localise.specs.Read.{meanings_of};
+ghost use Rattle.localise.specs.Views.{meanings, root_of, tables_of};
+ghost use Rattle.wanted_locale.specs.Wanted.{IsTagCause, IsWantedOf};
 
-use crate::bundle::{Bundle, is_same};
-use crate::{BundleCause, BundleText, Found, RenderError, Request};
-use gettext::{Error, Form};
+use crate::bundle::Bundle;
+use crate::bundles::Bundles;
+use crate::error::in_root;
+use crate::lists::patterns_of;
+use crate::walk::walk_to_stop;
+use crate::{ChainLoops, Found, RenderError};
+use gettext::Catalog;
+use icu_list::provider::ListFormatterPatterns;
+use icu_locale_core::DataLocale;
+use localise_texts::{BundleText, PatternTexts, Request};
 use std::alloc::Global;
+use wanted_locale::{Tables, TagCause, wanted};
 
-/// The locale in which nothing is known of the language.
-const UNKNOWN: &str = "und";
-
-/// Bundles whose catalogs are read, ready for requests.
+/// Bundles that are read, ready for requests.
 #[derive(Drop)]
-pub struct Localiser {
-    bundle: Option<Bundle>,
+pub struct Localiser<'a> {
+    tables: &'a Tables,
+    bundles: Bundles,
+    root: ListFormatterPatterns,
 }
 
-impl Localiser {
-    /// Reads the bundles' catalogs.
-    pub fn try_new(alloc: Global, bundles: &[BundleText]) -> Result<Localiser, RenderError>
-        requires { length bundles.now ≤ 1 }
-        ensures ok { IfOk result (λ localiser. Localises bundles.now (meanings localiser)) }
-        ensures accepted { IfOk result (λ _. refusal bundles.now ≡ None) }
-        ensures err { IfErr result (λ e. e ≢ RenderError.NoMemory → refusal bundles.now ≡ Some e) }
+impl<'a> Localiser<'a> {
+    /// The locale that a tag asks for, not yet normalised.
+    pub fn wanted(alloc: Global, tables: &Tables, tag: &str) -> Result<DataLocale, TagCause>
+        ensures ok { IfOk result (IsWantedOf tables.now.registry tag.now) }
+        ensures err { IfErr result (λ cause. cause ≢ TagCause.NoMemory
+            → IsTagCause tables.now.registry tag.now cause) }
     {
-        let Some(text) = bundles.first() else {
-            return Ok(Localiser { bundle: None });
-        };
-        match Bundle::read(alloc, text) {
-            Ok(bundle) => Ok(Localiser {
-                bundle: Some(bundle),
+        wanted(alloc, tables, tag)
+    }
+
+    /// Reads the bundles in their order, and the patterns that requests' own words are for.
+    pub fn try_new(
+        alloc: Global,
+        tables: &'a Tables,
+        bundles: &[BundleText],
+        root: &PatternTexts,
+    ) -> Result<Localiser<'a>, RenderError>
+        ensures ok { IfOk result (λ localiser.
+            Localises tables.now bundles.now root.now (meanings localiser) (root_of localiser)) }
+        ensures tables { IfOk result (λ localiser. tables_of localiser ≡ tables.now) }
+        ensures err { IfErr result (λ e. e ≢ RenderError.NoMemory
+            → IsRefusal tables.now bundles.now root.now e) }
+    {
+        let bundles = read_all(alloc, tables, bundles)?;
+        match patterns_of(alloc, root) {
+            Ok(root) => Ok(Localiser {
+                tables,
+                bundles,
+                root,
             }),
-            Err(Error::NoMemory) => Err(RenderError::NoMemory),
-            Err(error) => Err(RenderError::Bundle(0, BundleCause::Mo(error))),
+            Err(error) => Err(in_root(error)),
         }
     }
 
-    /// What the request is given, without taking memory.
-    pub fn find<'a>(&'a self, request: &'a Request) -> Found<'a>
-        requires { IsPlain request.now }
-        ensures { result ≡ localised (meanings self.now) request.now }
+    /// What the request gets for a wanted locale. It takes no memory.
+    pub fn find<'b>(
+        &'b self,
+        wanted: DataLocale,
+        request: &'b Request,
+    ) -> Result<Found<'b>, ChainLoops>
+        ensures ok { IfOk result (IsFound (tables_of self.now).fallbacker (meanings self.now)
+            (root_of self.now) wanted request.now) }
+        ensures err { IfErr result (λ _. IsNotFound (tables_of self.now).fallbacker
+            (meanings self.now) wanted request.now) }
+        ensures bound { IfOk result (λ found. found.answer.visited
+            ≤ 4 * map.len (tables_of self.now).fallbacker.parents + 6) }
+        ensures small { IfOk result (λ found. found.answer.visited ≤ 2 ^ 67) }
     {
-        match self.translation(request) {
-            Some(form) => Found::of_form(0, form),
-            None => Found::of_words(request),
+        match walk_to_stop(&self.tables.fallbacker, &self.bundles, wanted, request) {
+            Some(stop) => Ok(Found::of_stop(stop, &self.root, request)),
+            None => Err(ChainLoops),
         }
     }
 
-    /// The form that the first locale of the walk gives that gives one.
-    fn translation(&self, request: &Request) -> Option<Form<'_>>
-        ensures { numbered_from 0 (option_map (λ f. (f.number, chars f.text.now)) result)
-            ≡ chosen (meanings self.now) request.now }
+    /// How many bundles there are.
+    pub fn bundle_count(&self) -> usize
+        ensures { result ≡ length (meanings self.now) }
     {
-        let Some(bundle) = &self.bundle else {
-            return None;
-        };
-        let tag = request.tag.as_str();
-        if is_same(tag, UNKNOWN) {
-            return bundle.form_in(UNKNOWN, request);
-        }
-        match bundle.form_in(tag, request) {
-            Some(form) => Some(form),
-            None => bundle.form_in(UNKNOWN, request),
-        }
+        self.bundles.len()
     }
+
+    /// The catalog of the bundle with this number, counted from 0.
+    pub fn catalog(&self, bundle: usize) -> &Catalog
+        requires { bundle < length (meanings self.now) }
+        ensures { IsSomeAnd (slice_get (meanings self.now) bundle)
+            (λ b. b.messages ≡ messages_of result.now.entries) }
+    {
+        &self.bundles.get(bundle).catalog
+    }
+}
+
+/// Reads bundles in their order, up to the first that is faulty.
+fn read_all(alloc: Global, tables: &Tables, texts: &[BundleText]) -> Result<Bundles, RenderError>
+    ensures ok { IfOk result (λ read.
+        AreRead tables.now texts.now (meanings_of read.list.items)) }
+    ensures err { IfErr result (λ e. e ≢ RenderError.NoMemory
+        → IsBundleFault tables.now texts.now e) }
+{
+    let mut read = Bundles::new(alloc);
+    for text in texts {
+        let bundle = Bundle::read(alloc, tables, read.len(), text)?;
+        read = read.with(bundle)?;
+    }
+    Ok(read)
 }

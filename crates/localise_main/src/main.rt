@@ -1,8 +1,8 @@
 //! Prints the localised lines of a document: `localise_main render <document.json`.
 #![tactic(auto)]
 
-use localise_run::{Status, run};
-use std::io::{BufWriter, ErrorKind, Write};
+use localise_run::{Status, run_and_flush};
+use std::io::{BufWriter, ErrorKind};
 use std::process::ExitCode;
 use std::rt::Env;
 use std::{env, io};
@@ -30,17 +30,12 @@ fn words_of<R: Env + AllocGlobal>(rt: &R) -> Result<Vec<String>, Status> {
         .map_err(|_| Status::NoMemory)
 }
 
-/// Runs over standard input, output and error. Output that can't be written at the end is a fault.
+/// Runs over standard input, output and error.
 fn run_buffered(rt: &HostRuntime, words: &[String]) -> Status {
     let mut source = StdSource::new(rt.reader());
     let mut err = StdSink::new(rt.stderr());
     let Ok(buffer) = BufWriter::with_capacity(rt.alloc(), BUFFER, io::writer(rt)) else {
         return Status::NoMemory;
     };
-    let mut out = StdSink::new(buffer);
-    let status = run(rt.alloc(), words, &mut source, &mut out, &mut err);
-    match out.into_inner().flush() {
-        Ok(()) => status,
-        Err(_) => Status::WriteFault,
-    }
+    run_and_flush(rt.alloc(), words, &mut source, buffer, &mut err)
 }

@@ -1,5 +1,14 @@
-pub mod Objects
-pub mod Outcomes
-pub mod Output
-pub mod Plainness
-pub mod Values
+mod Ascii
+mod FoundLines
+mod Lines
+mod Made
+mod Numbers
+mod OneAnswer
+mod OneRendering
+mod OneTables
+mod Running
+mod SameRows
+mod TableStatuses
+mod TagBytes
+mod Words
+mod Written

@@ -1,4 +1,12 @@
-pub mod Code
-pub mod Contents
-pub mod Document
+pub mod Answers
+pub mod Causes
+pub mod Commands
+pub mod Generating
+pub mod Rendering
+pub mod Laws
+pub mod Requests
 pub mod Run
+pub mod Tables
+pub mod Walking
+pub mod Wanting
+pub mod Writing

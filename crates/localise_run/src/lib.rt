@@ -1,7 +1,8 @@
 //! The program's runs: a document in, one localised line per request out.
 //!
 //! [`run`] is the call that the program makes: it reads the document from a source and appends the
-//! lines to an output. Its answer, a [`Status`], is the program's exit status too.
+//! lines to an output. Its answer, a [`Status`], is the program's exit status too, and all but `Done`
+//! are told on a second output in one line.
 //!
 //! ```
 //! let mut source = SliceSource::new(document);
@@ -12,18 +13,25 @@
 //! assert_eq!(out.as_str(), "Salut\n");
 //! ```
 //!
-//! - `command`: [`run`], from words and a source to a status.
-//! - `document`: documents, read from JSON (RFC 8259).
-//! - `members`: the members of a JSON object, taken one by one.
-//! - `lines`: the lines of a document's requests.
-//! - `status`: [`Status`], how a run ended, and its code.
+//! - `running`: [`run`], from words and a source to a status, and [`run_and_flush`], over an output
+//!   that is flushed behind it.
+//! - `command`: [`Command`], what words ask for.
+//! - `prepare`: what all commands do first: the document, its tables, its bundles.
+//! - `render`, `walk`, `generate`: what each command makes of a document's requests.
+//! - `laws`: an input has one answer.
+//!
+//! Statuses and the lines that tell of them stand in `localise_status`; this crate passes them on.
 #![tactic(auto)]
 
 mod command;
-mod document;
-mod lines;
-mod members;
-mod status;
+mod generate;
+pub mod laws;
+mod prepare;
+mod render;
+mod running;
+mod tags;
+mod walk;
 
-pub use command::run;
-pub use status::Status;
+pub use command::Command;
+pub use localise_status::{Field, RequestCause, Section, ShapePlace, Status, TableCause};
+pub use running::{run, run_and_flush};

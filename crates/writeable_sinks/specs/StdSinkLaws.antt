@@ -1,6 +1,6 @@
 -- Texts that a `StdSink` took, one after another.
 use Rattle.std.specs.Prelude.{◌≡◌, ℕ, List, [], ◌++◌, take, drop, Option, Some, None, encode_utf8_all}
-use Rattle.std.specs.Io.KnownBytes.{Appends}
+use Rattle.std.specs.Io.KnownBytes.{Appends, Keeps}
 use Rattle.std.proofs.Common.{sym, ap, ◌∙◌, append-nil, append_assoc, subst, arith}
 use Rattle.std.proofs.lemmas.List.{take-append-drop}
 use Rattle.std.proofs.lemmas.Str.{encodes-append}
@@ -10,6 +10,12 @@ use Rattle.writeable_sinks.specs.StdSink.{Writing, Writes, WrittenTo}
 pub Appends-nothing : (held : Option (List ℕ)) → Appends held held []
 Appends-nothing None = tt
 Appends-nothing (Some xs) = sym (append-nil xs)
+
+-- what is kept is what it was, with nothing behind it
+pub Appends-kept : (old new : Option (List ℕ)) → Keeps old new → Appends old new []
+Appends-kept None new kept = tt
+Appends-kept (Some xs) None kept = absurd kept
+Appends-kept (Some xs) (Some ys) kept = kept ∙ sym (append-nil xs)
 
 -- bytes, and then others
 pub Appends-both : (a b c : Option (List ℕ)) (s t : List ℕ) → Appends a b s → Appends b c t → Appends a c (s ++ t)

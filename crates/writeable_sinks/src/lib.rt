@@ -10,6 +10,7 @@
 //!
 //! - `count_sink`: [`CountSink`] counts bytes.
 //! - `fixed_sink`: [`FixedSink`] holds a text in an array of its own, and takes no memory.
+//! - `flush_sink`: [`FlushSink`] is for sinks that may hold back what they take.
 //! - `laws`: what a [`PartsSink`] holds, as laws that contracts may cite.
 //! - `parts_sink`: [`PartsSink`] holds a marked text, and where its parts lie.
 //! - `script_sink`, `script_source`: [`ScriptSink`] and [`ScriptSource`] fail at the calls that they are
@@ -19,6 +20,7 @@
 
 mod count_sink;
 mod fixed_sink;
+mod flush_sink;
 mod laws;
 mod parts_sink;
 mod script_sink;
@@ -27,6 +29,7 @@ mod standard;
 
 pub use count_sink::CountSink;
 pub use fixed_sink::FixedSink;
+pub use flush_sink::FlushSink;
 pub use laws::spans_are_those_of_the_marks;
 pub use parts_sink::{PartSpan, PartsSink};
 pub use script_sink::ScriptSink;

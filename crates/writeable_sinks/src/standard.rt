@@ -8,6 +8,7 @@ ghost use Rattle.writeable_core.specs.Sink.{TookPrefix, HasCause, Rose};
 ghost use Rattle.writeable_sinks.specs.StdSink.{Writes, Grows};
 ghost use Rattle.writeable_sinks.specs.StdSinkLaws.{Writes-nothing, Writes-both};
 
+use crate::FlushSink;
 use std::io::{Read, Write};
 use std::marker::Model;
 use writeable_core::{Sink, SinkError, Source, SourceFault};
@@ -112,6 +113,24 @@ impl<W: Write> Sink for StdSink<W> {
     {
         let mut buffer = [0u8; 4];
         self.push_str(c.encode_utf8(&mut buffer))
+    }
+}
+
+impl<W: Write> FlushSink for StdSink<W> {
+    /// Flushes the writer. An `Err` of it is a fault.
+    fn flush(&mut self) -> Result<(), SinkError>
+        ensures taken { Writes W.contents self.old [] self.new }
+        ensures cause { HasCause self.old.faults self.new.faults false result }
+        ensures no_fault { OnOk result (self.new.faults ≡ self.old.faults) }
+        ensures kept { Keeps (W.contents self.old.writer) (W.contents self.new.writer) }
+    {
+        match self.writer.flush() {
+            Ok(()) => Ok(()),
+            Err(_) => {
+                self.faults = self.faults.saturating_add(1);
+                Err(SinkError::Fault)
+            }
+        }
     }
 }
 

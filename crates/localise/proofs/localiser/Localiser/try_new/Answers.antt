@@ -1,15 +1,24 @@
--- There is one bundle, and it is kept.
-use Rattle.std.proofs.Common.{◌≡◌, ◌∷◌, [], sym, subst, Some}
-use Rattle.std.specs.List.{slice_get}
-use Rattle.localise.specs.Bundles.{Localises}
-use Rattle.localise.specs.Kept.{meaning_of}
-use Rattle.localise.proofs.Lists.{only_one}
-use Rattle.localise.proofs.Walk.{localises_one}
+use Rattle.std.proofs.Common.{◌≢◌}
+use Rattle.icu_list.specs.ListFault.{list_fault}
+use Rattle.icu_list.specs.declared.error.DataError.TheVariants.{NoMemory}
+use Rattle.localise.specs.Bundles.{in_root}
+use Rattle.localise.specs.Lists.{list_texts}
+use Rattle.localise.specs.Read.{meanings_of}
+use Rattle.localise.proofs.BundleReading.{fault_some}
+use Rattle.localise.proofs.Keeping.{alike}
 use Rattle.localise.proofs.localiser.Localiser.try_new.Goals as goal
 
 pub returns-in-Ok-clause-ok : goal.returns-in-Ok-clause-ok
 returns-in-Ok-clause-ok c =
-    let first : slice_get c.args.bundles.now 0 ≡ Some c.in-Some.text.now = sym c.in-Some.ensures.value in
-    subst (λ texts. Localises texts (meaning_of c.in-Ok.bundle ∷ []))
-    (sym (only_one c.args.bundles.now c.in-Some.text.now c.requires first))
-    (localises_one c.in-Some.text.now (meaning_of c.in-Ok.bundle) c.in-Ok.ensures.ok)
+    let are = c.in_ok-bundles.ensures.ok in
+    record {
+      bundles = are.bundles;
+      accepted = record { bundles = are.are; root_patterns = c.in-Ok.ensures.ok };
+      alike = alike (meanings_of c.in_ok-bundles.bundles.list.items) are.bundles are.keep;
+    }
+
+pub returns-in-Err-clause-err : goal.returns-in-Err-clause-err
+returns-in-Err-clause-err c = λ not_memory.
+    let are = c.in_ok-bundles.ensures.ok in
+    let ne : c.in-Err.error ≢ NoMemory = λ is. not_memory (c.in_root.ensures.memory is) in
+    in_root are.are (fault_some (list_fault (list_texts c.args.root.now)) c.in-Err.error c.in-Err.ensures.err ne) (c.in_root.ensures.own ne)

@@ -1,0 +1,47 @@
+//! Localisers and requests, as members of a document.
+
+use calls::arguments::Wrong;
+use icu_locale_fallback::LocaleFallbacker;
+use language_tags::Registry;
+use localise_document::{Document, DocumentError, read_document};
+use serde_json::Value;
+use std::alloc::Global;
+use wanted_locale::Tables;
+
+/// The document of an object's members and of the members that `rest` writes behind them.
+pub fn document<'a>(
+    alloc: Global,
+    given: &'a Value,
+    rest: &str,
+) -> Result<Document, Wrong<'a>> {
+    let text = given.to_string(alloc)?;
+    let Some(front) = text.as_str().strip_suffix("}") else {
+        return Err(Wrong::Argument(given, "an object of a document's members"));
+    };
+    let comma = if front == "{" { "" } else { "," };
+    let whole = format!(in alloc; "{front}{comma}{rest}}}")?;
+    match read_document(alloc, whole.into_bytes()) {
+        Ok(document) => Ok(document),
+        Err(DocumentError::NoMemory) => Err(Wrong::NoMemory),
+        Err(_) => Err(Wrong::Argument(given, "an object of a document's members")),
+    }
+}
+
+/// The tables of a document.
+pub fn tables<'a>(
+    alloc: Global,
+    given: &'a Value,
+    document: &Document,
+) -> Result<Tables, Wrong<'a>> {
+    let faulty = Wrong::Argument(given, "tables without a fault");
+    let Ok(registry) = Registry::try_new(alloc, &document.registry) else {
+        return Err(faulty);
+    };
+    match LocaleFallbacker::try_new(alloc, &document.fallback) {
+        Ok(fallbacker) => Ok(Tables {
+            registry,
+            fallbacker,
+        }),
+        Err(_) => Err(faulty),
+    }
+}

@@ -1,0 +1,12 @@
+pub mod Ascii
+pub mod Cells
+pub mod FactBundles
+pub mod FactDocument
+pub mod FactRequests
+pub mod FactSteps
+pub mod FactTables
+pub mod Json
+pub mod Lists
+pub mod MembersByName
+pub mod Sections
+pub mod Slots

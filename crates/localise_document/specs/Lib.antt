@@ -1,0 +1,13 @@
+pub mod Bundles
+pub mod Contents
+pub mod Document
+pub mod Facts
+pub mod Hex
+pub mod Members
+pub mod Misread
+pub mod Names
+pub mod Objects
+pub mod Patterns
+pub mod Requests
+pub mod Shape
+pub mod Tables

@@ -1,0 +1,277 @@
+-- What a run gives, from its document's tables up to the bytes and the words.
+use Rattle.std.proofs.Common.{◌≡◌, ◌≢◌, ◌⊎◌, ◌↔◌, ℕ, ◌+◌, ◌≤◌, ◌<◌, List, [], ◌∷◌, ◌++◌, Option, Some, None, Ok, Err, Result, Bool, true, length, map, codes, String, Global, string_bytes, refl, sym, ap, ◌∙◌, subst, inl, inr, arith}
+use Rattle.std.specs.Prelude.{IfSome, OnErr, OnOk, replicate}
+use Rattle.std.proofs.lemmas.List.{length-replicate}
+use Rattle.icu_list.specs.Patterns.{Patterns}
+use Rattle.localise.specs.Bundles.{AreAccepted, IsRefusal}
+use Rattle.localise.specs.Meaning.{Meaning}
+use Rattle.localise.specs.declared.error.RenderError.{RenderError}
+use Rattle.localise.specs.declared.error.RenderError.TheVariants as refusals
+use Rattle.localise_document.specs.Contents.{Contents}
+use Rattle.localise_document.specs.Document.{IsDocument, IsDocumentFault}
+use Rattle.localise_document.specs.declared.error.DocumentError.{DocumentError}
+use Rattle.localise_document.specs.declared.error.DocumentError.TheVariants as documents
+use Rattle.localise_run.proofs.Written.{gives_along}
+use Rattle.localise_run.specs.Answers.{Begins, IsAnswer, IsBegun, IsMade, Says, SaysFirst, document, in_bundles, in_requests, in_tables, misshapen, not_json, status_of, too_long}
+use Rattle.localise_run.specs.Causes.{status_of_document, status_of_reading, status_of_sink}
+use Rattle.localise_run.specs.Commands.{AreNoCommand, AreWords, IsCommand}
+use Rattle.localise_run.specs.Laws.{OneAnswer}
+use Rattle.localise_run.specs.Run.{AreRead, Appended, Gives, GivesRead, IsFlushed, Runs, Written, failed, flushed, no_memory, written}
+use Rattle.localise_run.specs.Tables.{HasTables, IsTableStatus, faulty}
+use Rattle.localise_run.specs.Tables.{no_memory as no_table_memory}
+use Rattle.localise_run.specs.declared.command.Command.{Command}
+use Rattle.localise_run.specs.declared.command.Command.TheVariants.{Render, Walk, Generate}
+use Rattle.localise_status.specs.Classes.{IsFailure, IsOfBytes, class_of}
+use Rattle.localise_status.specs.FaultLines.{IsReported, whole, front}
+use Rattle.localise_status.specs.declared.status.Status.{Status}
+use Rattle.localise_status.specs.declared.status.Status.TheVariants.{Done, BadWords, NotJson, Shape, Table, Bundle, DuplicateLocale, Root, Request as OfRequest, ReadFault, WriteFault, NoMemory, TooLong}
+use Rattle.reading.specs.Reading.{IsReadError, most_bytes}
+use Rattle.reading.specs.declared.error.ReadError.{ReadError}
+use Rattle.reading.specs.declared.error.ReadError.TheVariants as unread
+use Rattle.wanted_locale.specs.declared.tables.Tables.{Tables}
+use Rattle.writeable_core.specs.Sink.{HasCause, Rose, TookPrefix}
+use Rattle.writeable_core.specs.declared.sink.SinkError.{SinkError}
+use Rattle.writeable_core.specs.declared.sink.SinkError.TheVariants as sink
+
+-- ---- over a document
+
+module _ {O : Type 0} (took : O → List ℕ → O → Type 0) (faults : O → ℕ) (command : Command) (d : Contents) where
+  abbrev GivesAnswer : O → O → Status → Type 0
+  GivesAnswer old new status = Gives took (IsAnswer command d) (IsBegun command d) (written faults old new) status
+
+  -- a row of its tables is faulty, or memory ran out
+  pub tables_fail : (o : O) (status : Status) → IsTableStatus d status → GivesAnswer o o status
+  tables_fail o status (faulty {cause = c} fault is) =
+      subst (GivesAnswer o o) (sym is) (in_tables fault refl refl, refl)
+  tables_fail o status (no_table_memory is) = subst (GivesAnswer o o) (sym is) (inl refl)
+
+  -- its bundles or its root are refused, or memory ran out
+  pub bundles_fail : (o : O) (T : Tables) (e : RenderError) → HasTables d T
+      → (e ≢ refusals.NoMemory → IsRefusal T d.bundles d.root e) → GivesAnswer o o (status_of e)
+  bundles_fail o T (refusals.Bundle i cause) tables is = (in_bundles tables (is (λ same. cc)) refl refl, refl)
+  bundles_fail o T (refusals.DuplicateLocale i) tables is = (in_bundles tables (is (λ same. cc)) refl refl, refl)
+  bundles_fail o T (refusals.Root fault) tables is = (in_bundles tables (is (λ same. cc)) refl refl, refl)
+  bundles_fail o T (refusals.Tag cause) tables is = inl refl
+  bundles_fail o T refusals.ChainLoops tables is = inl refl
+  bundles_fail o T refusals.Sink tables is = inl refl
+  bundles_fail o T refusals.NoMemory tables is = inl refl
+
+  -- what the command makes of its requests is its answer
+  pub requests_give : (old new : O) (T : Tables) (bundles : List Meaning) (root : Patterns) (status : Status) → HasTables d T
+      → AreAccepted T d.bundles d.root bundles root
+      → Gives took (IsMade command T bundles root d.requests) (Begins command T bundles root d.requests) (written faults old new) status
+      → GivesAnswer old new status
+  requests_give old new T bundles root status tables accepted g =
+      gives_along took (IsMade command T bundles root d.requests) (IsAnswer command d) (Begins command T bundles root d.requests) (IsBegun command d)
+      (written faults old new)
+      (λ (s : Status) (text : List ℕ) made. in_requests tables accepted made)
+      (λ (text : List ℕ) begins. record { T = T; tables = tables; bundles = bundles; root = root; accepted = accepted; begins = begins })
+      status g
+
+-- ---- over bytes
+
+module _ {O : Type 0} (took : O → List ℕ → O → Type 0) (faults : O → ℕ) (command : Command) (bytes : List ℕ) where
+  abbrev GivesSaid : O → O → Status → Type 0
+  GivesSaid old new status = Gives took (Says command bytes) (SaysFirst command bytes) (written faults old new) status
+
+  -- they are no document, or memory ran out
+  pub document_fails : (o : O) (e : DocumentError) → length bytes ≤ most_bytes → (e ≢ documents.NoMemory → IsDocumentFault bytes e)
+      → GivesSaid o o (status_of_document e)
+  document_fails o documents.NotJson within is = (not_json within (is (λ same. cc)) refl refl, refl)
+  document_fails o (documents.Shape place) within is = (misshapen within (is (λ same. cc)) refl refl, refl)
+  document_fails o documents.NoMemory within is = inl refl
+
+  -- the answer of the document is theirs
+  pub document_gives : (old new : O) (d : Contents) (status : Status) → length bytes ≤ most_bytes → IsDocument bytes d
+      → Gives took (IsAnswer command d) (IsBegun command d) (written faults old new) status → GivesSaid old new status
+  document_gives old new d status within is g =
+      gives_along took (IsAnswer command d) (Says command bytes) (IsBegun command d) (SaysFirst command bytes) (written faults old new)
+      (λ (s : Status) (text : List ℕ) answer. document within is answer)
+      (λ (text : List ℕ) begun. record { within = within; d = d; document = is; begun = begun })
+      status g
+
+-- ---- over a source
+
+-- bytes that were read are those that were told
+told : (left : Option (List ℕ)) (bytes : List ℕ) → IfSome left (λ t. bytes ≡ t) → AreRead left bytes
+told None bytes h = tt
+told (Some t) bytes h = sym h
+
+module _ {O : Type 0} (took : O → List ℕ → O → Type 0) (faults : O → ℕ) (command : Command) (left : Option (List ℕ)) (before now : ℕ) where
+  abbrev RunsTo : O → O → Status → Type 0
+  RunsTo old new status = Runs took command left before now (written faults old new) (class_of status) status
+
+  given : (old new : O) (bytes : List ℕ) (status : Status) → IfSome left (λ t. bytes ≡ t)
+      → Gives took (Says command bytes) (SaysFirst command bytes) (written faults old new) status
+      → GivesRead took command left (written faults old new) status
+  given old new bytes status all g = record { bytes = bytes; read = told left bytes all; gives = g }
+
+  -- all bytes were read
+  pub bytes_run : (old new : O) (bytes : List ℕ) (status : Status) → IfSome left (λ t. bytes ≡ t) → IsOfBytes status
+      → Gives took (Says command bytes) (SaysFirst command bytes) (written faults old new) status → RunsTo old new status
+  bytes_run old new bytes Done all of g = given old new bytes Done all g
+  bytes_run old new bytes BadWords all of g = absurd of
+  bytes_run old new bytes NotJson all of g = given old new bytes NotJson all g
+  bytes_run old new bytes (Shape place) all of g = given old new bytes (Shape place) all g
+  bytes_run old new bytes (Table cause) all of g = given old new bytes (Table cause) all g
+  bytes_run old new bytes (Bundle i cause) all of g = given old new bytes (Bundle i cause) all g
+  bytes_run old new bytes (DuplicateLocale i) all of g = given old new bytes (DuplicateLocale i) all g
+  bytes_run old new bytes (Root fault) all of g = given old new bytes (Root fault) all g
+  bytes_run old new bytes (OfRequest i cause) all of g = given old new bytes (OfRequest i cause) all g
+  bytes_run old new bytes ReadFault all of g = absurd of
+  bytes_run old new bytes WriteFault all of g = given old new bytes WriteFault all g
+  bytes_run old new bytes NoMemory all of g = given old new bytes NoMemory all g
+  bytes_run old new bytes TooLong all of g = absurd of
+
+-- bytes that a source may have had, if it has told none
+some_read : (left : Option (List ℕ)) → (bytes : List ℕ) × AreRead left bytes
+some_read None = ([], tt)
+some_read (Some t) = (t, refl)
+
+-- and more than are read
+some_long : (most : ℕ) (left : Option (List ℕ)) → IfSome left (λ t. most < length t)
+    → (bytes : List ℕ) × AreRead left bytes × (most < length bytes)
+some_long most None h = (replicate (most + 1) 0, tt, omega (arith, length-replicate (most + 1) 0))
+some_long most (Some t) h = (t, refl, h)
+
+module _ {O : Type 0} (took : O → List ℕ → O → Type 0) (faults : O → ℕ) (command : Command) (left : Option (List ℕ)) (before now : ℕ) where
+  -- reading failed
+  pub reading_runs : (o : O) (e : ReadError) → IsReadError most_bytes before now left e
+      → RunsTo took faults command left before now o o (status_of_reading e)
+  reading_runs o unread.Fault is = (is, refl)
+  reading_runs o unread.TooLong is =
+      let long = some_long most_bytes left is in
+      record { bytes = long.0; read = long.1; gives = (too_long long.2 refl refl, refl) }
+  reading_runs o unread.NoMemory is =
+      let some = some_read left in
+      record { bytes = some.0; read = some.1; gives = inl refl }
+
+-- ---- over words
+
+-- words are one command
+pub one_command : (words : List (String Global)) (a b : Command) → IsCommand words a → IsCommand words b → a ≡ b
+one_command words = by
+  where
+    by : (a b : Command) → IsCommand words a → IsCommand words b → a ≡ b
+    by Render Render h g = refl
+    by Render Walk h g = cc
+    by Render (Generate n) h g = let is = g.2 in cc
+    by Walk Render h g = cc
+    by Walk Walk h g = refl
+    by Walk (Generate n) h g = let is = g.2 in cc
+    by (Generate n) Render h g = let is = h.2 in cc
+    by (Generate n) Walk h g = let is = h.2 in cc
+    by (Generate n) (Generate m) h g =
+        let digits : h.0 ≡ g.0 = let is = h.2 in let so = g.2 in cc in
+        let value = h.1.number in
+        let other = g.1.number in
+        cc
+
+-- ---- what a run's answer says
+
+module _ {O : Type 0} (took : O → List ℕ → O → Type 0) (faults : O → ℕ) (command : Command) (left : Option (List ℕ)) (before now : ℕ) (old new : O) where
+  abbrev Ran : Status → Type 0
+  Ran status = RunsTo took faults command left before now old new status
+
+  -- `Done`: the bytes are answered so, and the lines were appended
+  pub headline : (held : O → Option (List ℕ)) → ((a b : O) (t h : List ℕ) → took a t b → held a ≡ Some h → held b ≡ Some (h ++ t))
+      → (status : Status) → status ≡ Done → Ran status
+      → (bytes : List ℕ) × AreRead left bytes × ((lines : List ℕ) × Says command bytes Done lines × Appended took held old lines new)
+  headline held took_held status done ran =
+      let r : Ran Done = subst Ran done ran in
+      (
+        r.bytes,
+        r.read,
+        (r.gives.text, r.gives.says, record { taken = r.gives.taken; told = λ (h : List ℕ) is. took_held old new r.gives.text h r.gives.taken is }),
+      )
+
+  -- an answer that the bytes have is the answer, unless something failed
+  abbrev IsTheirs : Status → Type 0
+  IsTheirs status = IfSome left (λ bytes. (answer : Status) (text : List ℕ) → Says command bytes answer text → (status ≡ answer) ⊎ IsFailure status)
+
+  theirs : OneAnswer → (status : Status) (bytes text : List ℕ) → AreRead left bytes → Says command bytes status text
+      → IfSome left (λ t. (answer : Status) (other : List ℕ) → Says command t answer other → status ≡ answer)
+  theirs one status bytes text = by left
+    where
+      by : (l : Option (List ℕ)) → AreRead l bytes → Says command bytes status text
+          → IfSome l (λ t. (answer : Status) (other : List ℕ) → Says command t answer other → status ≡ answer)
+      by None read says = tt
+      by (Some t) read says = λ (answer : Status) (other : List ℕ) so.
+          (one command bytes status answer text other says (subst (λ (b : List ℕ). Says command b answer other) read so)).0
+
+  certainly : (status : Status) → IfSome left (λ t. (answer : Status) (other : List ℕ) → Says command t answer other → status ≡ answer) → IsTheirs status
+  certainly status = by left
+    where
+      by : (l : Option (List ℕ)) → IfSome l (λ t. (answer : Status) (other : List ℕ) → Says command t answer other → status ≡ answer)
+          → IfSome l (λ bytes. (answer : Status) (text : List ℕ) → Says command bytes answer text → (status ≡ answer) ⊎ IsFailure status)
+      by None h = tt
+      by (Some t) h = λ (answer : Status) (text : List ℕ) says. inl (h answer text says)
+
+  failing : (status : Status) → IsFailure status → IsTheirs status
+  failing status fails = by left
+    where
+      by : (l : Option (List ℕ)) → IfSome l (λ bytes. (answer : Status) (text : List ℕ) → Says command bytes answer text → (status ≡ answer) ⊎ IsFailure status)
+      by None = tt
+      by (Some t) = λ (answer : Status) (text : List ℕ) says. inr fails
+
+  pub exact : OneAnswer → (status : Status) → Ran status → IsTheirs status
+  exact one Done r = certainly Done (theirs one Done r.bytes r.gives.text r.read r.gives.says)
+  exact one BadWords r = absurd r
+  exact one NotJson r = certainly NotJson (theirs one NotJson r.bytes [] r.read r.gives.0)
+  exact one (Shape place) r = certainly (Shape place) (theirs one (Shape place) r.bytes [] r.read r.gives.0)
+  exact one (Table cause) r = certainly (Table cause) (theirs one (Table cause) r.bytes [] r.read r.gives.0)
+  exact one (Bundle i cause) r = certainly (Bundle i cause) (theirs one (Bundle i cause) r.bytes [] r.read r.gives.0)
+  exact one (DuplicateLocale i) r = certainly (DuplicateLocale i) (theirs one (DuplicateLocale i) r.bytes [] r.read r.gives.0)
+  exact one (Root fault) r = certainly (Root fault) (theirs one (Root fault) r.bytes [] r.read r.gives.0)
+  exact one (OfRequest i cause) r = certainly (OfRequest i cause) (theirs one (OfRequest i cause) r.bytes r.gives.text r.read r.gives.says)
+  exact one ReadFault r = failing ReadFault tt
+  exact one WriteFault r = failing WriteFault tt
+  exact one NoMemory r = failing NoMemory tt
+  exact one TooLong r = certainly TooLong (theirs one TooLong r.bytes [] r.read r.gives.0)
+
+  -- of the failures only want of memory comes where no count rose
+  unfailing : (status : Status) → Ran status → IsFailure status → (Rose before now → ⊥) → (Rose (faults old) (faults new) → ⊥) → status ≡ NoMemory
+  unfailing ReadFault r fails source out = absurd (source r.0)
+  unfailing WriteFault r fails source out = absurd (out r.gives.0)
+  unfailing NoMemory r fails source out = refl
+  unfailing Done r fails source out = absurd fails
+  unfailing BadWords r fails source out = absurd fails
+  unfailing NotJson r fails source out = absurd fails
+  unfailing (Shape place) r fails source out = absurd fails
+  unfailing (Table cause) r fails source out = absurd fails
+  unfailing (Bundle i cause) r fails source out = absurd fails
+  unfailing (DuplicateLocale i) r fails source out = absurd fails
+  unfailing (Root fault) r fails source out = absurd fails
+  unfailing (OfRequest i cause) r fails source out = absurd fails
+  unfailing TooLong r fails source out = absurd fails
+
+  -- bytes that have the answer `Done` get it, or memory ran out
+  pub complete : OneAnswer → (status : Status) → Ran status
+      → IfSome left (λ bytes. (lines : List ℕ) → Says command bytes Done lines
+      → (Rose before now → ⊥) → (Rose (faults old) (faults new) → ⊥) → (status ≡ Done) ⊎ (status ≡ NoMemory))
+  complete one status r = by left (exact one status r)
+    where
+      by : (l : Option (List ℕ)) → IfSome l (λ bytes. (answer : Status) (text : List ℕ) → Says command bytes answer text → (status ≡ answer) ⊎ IsFailure status)
+          → IfSome l (λ bytes. (lines : List ℕ) → Says command bytes Done lines
+          → (Rose before now → ⊥) → (Rose (faults old) (faults new) → ⊥) → (status ≡ Done) ⊎ (status ≡ NoMemory))
+      by None h = tt
+      by (Some t) h = λ (lines : List ℕ) says source out.
+          elim (h Done lines says) [ | inl same ↦ inl same | inr fails ↦ inr (unfailing status r fails source out) ]
+
+-- ---- what is told of it
+
+module _ {E : Type 0} (took : E → List ℕ → E → Type 0) (faults : E → ℕ) (takes_memory : E → Bool) (old new : E) (line : List ℕ) where
+  pub reported : (r : Result (Unit {0}) SinkError) → OnOk r (took old line new) → OnErr r (TookPrefix took old line new)
+      → HasCause (faults old) (faults new) (takes_memory old) r → IsReported took faults takes_memory old line new
+  reported (Ok u) ok err cause = whole ok
+  reported (Err sink.Fault) ok err cause = front err (inl (cause.fault refl))
+  reported (Err sink.NoMemory) ok err cause = front err (inr (cause.no_memory refl))
+
+  -- the output was flushed, or failed then
+  pub flushed_behind : (answer : Status) → took old [] new → IsFlushed took faults takes_memory old new answer answer
+  flushed_behind answer taken = flushed taken refl
+
+  pub flush_fails : (answer : Status) (e : SinkError) → took old [] new → HasCause {T = Unit {0}} (faults old) (faults new) (takes_memory old) (Err e)
+      → IsFlushed took faults takes_memory old new answer (status_of_sink e)
+  flush_fails answer sink.Fault taken cause = failed taken (cause.fault refl) refl
+  flush_fails answer sink.NoMemory taken cause = no_memory taken (cause.no_memory refl) refl
