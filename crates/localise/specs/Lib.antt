@@ -11,3 +11,4 @@ pub mod Read
 pub mod Render
 pub mod Stops
 pub mod Views
+pub mod Words

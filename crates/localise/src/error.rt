@@ -1,4 +1,5 @@
 ghost use Rattle.std.specs.Prelude.{◌≡◌, ◌≢◌};
+ghost use Rattle.localise.specs.Words.{words_of_cause, words_of_loops, words_of_refusal};
 
 use gettext::Error;
 use icu_list::DataError;
@@ -20,8 +21,10 @@ pub enum BundleCause {
 }
 
 impl BundleCause {
-    /// A few words on the error that it carries.
-    pub fn text(&self) -> &'static str {
+    /// The error that it carries, in words.
+    pub fn text(&self) -> &'static str
+        ensures { result.now ≡ words_of_cause self.now }
+    {
         match self {
             BundleCause::Tag(cause) => cause.text(),
             BundleCause::Mo(error) => error.text(),
@@ -58,8 +61,10 @@ pub enum RenderError {
 }
 
 impl RenderError {
-    /// A few words on the error that it carries, or on itself.
-    pub fn text(&self) -> &'static str {
+    /// The error that it carries in words, or its own.
+    pub fn text(&self) -> &'static str
+        ensures { result.now ≡ words_of_refusal self.now }
+    {
         match self {
             RenderError::Bundle(_, cause) => cause.text(),
             RenderError::DuplicateLocale(_) => "locale of an earlier bundle",
@@ -78,8 +83,10 @@ impl RenderError {
 pub struct ChainLoops;
 
 impl ChainLoops {
-    /// A few words on the error.
-    pub fn text(&self) -> &'static str {
+    /// The error in words.
+    pub fn text(&self) -> &'static str
+        ensures { result.now ≡ words_of_loops }
+    {
         "fallback loops"
     }
 }

@@ -6,7 +6,7 @@ mod Numbers
 mod OneAnswer
 mod OneRendering
 mod OneTables
-mod Running
+mod Runs
 mod SameRows
 mod TableStatuses
 mod TagBytes

@@ -1,5 +1,5 @@
 -- The one answer of an input to a command: a status, and the text that is appended.
-use Rattle.std.specs.Prelude.{◌≡◌, ◌<◌, ◌≤◌, ℕ, List, [], length, None}
+use Rattle.std.specs.Prelude.{◌≡◌, ◌≢◌, ◌<◌, ◌≤◌, ℕ, List, [], length, None}
 use Rattle.icu_list.specs.Patterns.{Patterns}
 use Rattle.localise.specs.Bundles.{AreAccepted, IsRefusal}
 use Rattle.localise.specs.Meaning.{Meaning}
@@ -17,6 +17,8 @@ use Rattle.localise_run.specs.declared.command.Command.TheVariants.{Render, Walk
 use Rattle.localise_status.specs.declared.status.Status.{Status}
 use Rattle.localise_status.specs.declared.status.Status.TheVariants as status
 use Rattle.localise_status.specs.declared.status.TableCause.{TableCause}
+use Rattle.localise_texts.specs.declared.bundle.BundleText.{BundleText}
+use Rattle.localise_texts.specs.declared.patterns.PatternTexts.{PatternTexts}
 use Rattle.localise_texts.specs.declared.request.Request.{Request}
 use Rattle.reading.specs.Reading.{most_bytes}
 use Rattle.wanted_locale.specs.declared.tables.Tables.{Tables}
@@ -30,6 +32,12 @@ status_of (refusals.Tag cause) = status.NoMemory
 status_of refusals.ChainLoops = status.NoMemory
 status_of refusals.Sink = status.NoMemory
 status_of refusals.NoMemory = status.NoMemory
+
+-- the status of bundles or a root that are refused, or of want of memory
+pub record IsRefusedBy (T : Tables) (bundles : List BundleText) (root : PatternTexts) (answer : Status) : Type 0 where
+  pub refusal : RenderError
+  pub is : refusal ≢ refusals.NoMemory → IsRefusal T bundles root refusal
+  pub status_is : answer ≡ status_of refusal
 
 -- what a command makes of requests over tables, bundles and root
 abbrev pub IsMade : Command → Tables → List Meaning → Patterns → List Request → Status → List ℕ → Type 0

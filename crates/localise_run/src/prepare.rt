@@ -1,8 +1,10 @@
-//! What all commands do first: a document's tables and its bundles.
+//! What all commands do first: a document's tables, and the localiser of its bundles.
 
 ghost use Rattle.std.specs.Prelude.{◌≡◌, IfErr, IfOk};
+ghost use Rattle.localise.specs.Kept.{Localises};
+ghost use Rattle.localise.specs.Views.{meanings, root_of, tables_of};
 ghost use Rattle.localise_document.specs.Contents.{Contents};
-ghost use Rattle.localise_run.specs.Answers.{status_of};
+ghost use Rattle.localise_run.specs.Answers.{IsRefusedBy, status_of};
 ghost use Rattle.localise_run.specs.Causes.{status_of_document, status_of_fallback};
 ghost use Rattle.localise_run.specs.Causes.{status_of_registry};
 ghost use Rattle.localise_run.specs.Tables.{AreFallbackRows, AreRegistryRows, HasTables};
@@ -12,7 +14,7 @@ use crate::{Status, TableCause};
 use icu_locale_fallback::{FallbackRows, LocaleFallbacker, TableError};
 use language_tags::{Registry, RegistryError, RegistryRows};
 use language_tags_registry::laws::rows_make_one_registry;
-use localise::RenderError;
+use localise::{BundleText, Localiser, PatternTexts, RenderError};
 use localise_document::DocumentError;
 use std::alloc::Global;
 use wanted_locale::Tables;
@@ -60,6 +62,24 @@ fn of_fallback(error: TableError) -> Status
     }
 }
 
+/// The localiser of bundles and a root.
+pub(crate) fn localiser_of<'t>(
+    alloc: Global,
+    tables: &'t Tables,
+    bundles: &[BundleText],
+    root: &PatternTexts,
+) -> Result<Localiser<'t>, Status>
+    ensures ok { IfOk result (λ localiser. Localises tables.now bundles.now root.now
+        (meanings localiser) (root_of localiser)) }
+    ensures tables { IfOk result (λ localiser. tables_of localiser ≡ tables.now) }
+    ensures err { IfErr result (IsRefusedBy tables.now bundles.now root.now) }
+{
+    match Localiser::try_new(alloc, tables, bundles, root) {
+        Ok(localiser) => Ok(localiser),
+        Err(error) => Err(of_refusal(error)),
+    }
+}
+
 /// The status of a document that isn't read.
 pub(crate) fn of_document(error: DocumentError) -> Status
     ensures { result ≡ status_of_document error }
@@ -73,7 +93,7 @@ pub(crate) fn of_document(error: DocumentError) -> Status
 
 /// The status of bundles or a root that are refused. The last three aren't answered by a
 /// `Localiser`'s constructors.
-pub(crate) fn of_refusal(error: RenderError) -> Status
+fn of_refusal(error: RenderError) -> Status
     ensures { result ≡ status_of error }
 {
     match error {

@@ -12,11 +12,10 @@ ghost use Rattle.reading.specs.Reading.{IsReadToEnd, most_bytes};
 ghost use Rattle.writeable_core.specs.Sink.{Rose};
 
 use crate::generate::write_numbers;
-use crate::prepare::{of_document, of_refusal, tables_of};
+use crate::prepare::{localiser_of, of_document, tables_of};
 use crate::render::{of_sink, write_lines};
 use crate::walk::write_walks;
 use crate::{Command, Status};
-use localise::Localiser;
 use localise_document::{Document, read_document};
 use localise_status::write_fault_line;
 use reading::{ReadError, read_all};
@@ -207,10 +206,12 @@ fn run_document<O: Sink>(
         Ok(tables) => tables,
         Err(status) => return status,
     };
-    let localiser = match Localiser::try_new(alloc, &tables, &bundles, &root) {
+    let localiser = match localiser_of(alloc, &tables, &bundles, &root) {
         Ok(localiser) => localiser,
-        Err(error) => return of_refusal(error),
+        Err(status) => return status,
     };
+    // What the localiser keeps of the catalogs is its own.
+    drop(bundles);
     match command {
         Command::Render => write_lines(alloc, &tables, &localiser, &requests, out),
         Command::Walk => write_walks(alloc, &tables, &requests, out),

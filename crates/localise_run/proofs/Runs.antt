@@ -12,7 +12,7 @@ use Rattle.localise_document.specs.Document.{IsDocument, IsDocumentFault}
 use Rattle.localise_document.specs.declared.error.DocumentError.{DocumentError}
 use Rattle.localise_document.specs.declared.error.DocumentError.TheVariants as documents
 use Rattle.localise_run.proofs.Written.{gives_along}
-use Rattle.localise_run.specs.Answers.{Begins, IsAnswer, IsBegun, IsMade, Says, SaysFirst, document, in_bundles, in_requests, in_tables, misshapen, not_json, status_of, too_long}
+use Rattle.localise_run.specs.Answers.{Begins, IsAnswer, IsBegun, IsMade, IsRefusedBy, Says, SaysFirst, document, in_bundles, in_requests, in_tables, misshapen, not_json, status_of, too_long}
 use Rattle.localise_run.specs.Causes.{status_of_document, status_of_reading, status_of_sink}
 use Rattle.localise_run.specs.Commands.{AreNoCommand, AreWords, IsCommand}
 use Rattle.localise_run.specs.Laws.{OneAnswer}
@@ -45,16 +45,21 @@ module _ {O : Type 0} (took : O → List ℕ → O → Type 0) (faults : O → �
       subst (GivesAnswer o o) (sym is) (in_tables fault refl refl, refl)
   tables_fail o status (no_table_memory is) = subst (GivesAnswer o o) (sym is) (inl refl)
 
-  -- its bundles or its root are refused, or memory ran out
-  pub bundles_fail : (o : O) (T : Tables) (e : RenderError) → HasTables d T
+  -- bundles or a root are refused, or memory ran out
+  refusal_fails : (o : O) (T : Tables) (e : RenderError) → HasTables d T
       → (e ≢ refusals.NoMemory → IsRefusal T d.bundles d.root e) → GivesAnswer o o (status_of e)
-  bundles_fail o T (refusals.Bundle i cause) tables is = (in_bundles tables (is (λ same. cc)) refl refl, refl)
-  bundles_fail o T (refusals.DuplicateLocale i) tables is = (in_bundles tables (is (λ same. cc)) refl refl, refl)
-  bundles_fail o T (refusals.Root fault) tables is = (in_bundles tables (is (λ same. cc)) refl refl, refl)
-  bundles_fail o T (refusals.Tag cause) tables is = inl refl
-  bundles_fail o T refusals.ChainLoops tables is = inl refl
-  bundles_fail o T refusals.Sink tables is = inl refl
-  bundles_fail o T refusals.NoMemory tables is = inl refl
+  refusal_fails o T (refusals.Bundle i cause) tables is = (in_bundles tables (is (λ same. cc)) refl refl, refl)
+  refusal_fails o T (refusals.DuplicateLocale i) tables is = (in_bundles tables (is (λ same. cc)) refl refl, refl)
+  refusal_fails o T (refusals.Root fault) tables is = (in_bundles tables (is (λ same. cc)) refl refl, refl)
+  refusal_fails o T (refusals.Tag cause) tables is = inl refl
+  refusal_fails o T refusals.ChainLoops tables is = inl refl
+  refusal_fails o T refusals.Sink tables is = inl refl
+  refusal_fails o T refusals.NoMemory tables is = inl refl
+
+  -- and so the document's answer is
+  pub bundles_fail : (o : O) (T : Tables) (status : Status) → HasTables d T → IsRefusedBy T d.bundles d.root status → GivesAnswer o o status
+  bundles_fail o T status tables refused =
+      subst (GivesAnswer o o) (sym refused.status_is) (refusal_fails o T refused.refusal tables refused.is)
 
   -- what the command makes of its requests is its answer
   pub requests_give : (old new : O) (T : Tables) (bundles : List Meaning) (root : Patterns) (status : Status) → HasTables d T
