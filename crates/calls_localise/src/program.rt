@@ -5,10 +5,11 @@
 //! `calls::scripts`); or any other value, which is its own text. A run is answered by its status and
 //! exit code, and by what the output and the error sink took. A status is its name.
 
+use crate::documents::source_of;
 use calls::answers;
 use calls::answers::{Answer, Object};
 use calls::arguments::{Wrong, list, numbers, text};
-use calls::scripts::{Script, script_of};
+use calls::scripts::Script;
 use icu_list::DataError;
 use language_tags::RegistryError;
 use localise::BundleCause;
@@ -23,12 +24,12 @@ pub fn answer<'a>(alloc: Global, call: &str, arguments: &'a [Value]) -> Answer<'
     match (call, arguments) {
         ("run", [words, given]) => {
             let words = texts(alloc, words)?;
-            run_into(alloc, &words, &document(alloc, given)?, Vec::new(alloc))
+            run_into(alloc, &words, &source_of(alloc, given)?, Vec::new(alloc))
         }
         ("run", [words, given, failing]) => {
             let words = texts(alloc, words)?;
             let failing = numbers(alloc, failing)?;
-            run_into(alloc, &words, &document(alloc, given)?, failing)
+            run_into(alloc, &words, &source_of(alloc, given)?, failing)
         }
         ("Status::code", [status]) => Ok(exit_code(status_of(status)?)),
         _ => Err(Wrong::Call),
@@ -41,14 +42,6 @@ fn texts<'a>(alloc: Global, given: &'a Value) -> Result<Vec<String>, Wrong<'a>> 
         texts.push(String::from_str(alloc, text(each)?)?)?;
     }
     Ok(texts)
-}
-
-fn document<'a>(alloc: Global, given: &'a Value) -> Result<Script, Wrong<'a>> {
-    match given {
-        Value::String(text) => Ok(Script::of_text(alloc, text.as_str())?),
-        _ if given.get("most").is_some() => script_of(alloc, given),
-        _ => Ok(Script::of_text(alloc, given.to_string(alloc)?.as_str())?),
-    }
 }
 
 fn run_into<'a>(
