@@ -68,7 +68,10 @@ fn of_registry(alloc: Global, rows: &RegistryRows) -> Result<Value, AllocError> 
         &[
             ("languages", rows.languages.as_slice()),
             ("languages_preferred", rows.languages_preferred.as_slice()),
-            ("languages_suppress_script", rows.languages_suppress_script.as_slice()),
+            (
+                "languages_suppress_script",
+                rows.languages_suppress_script.as_slice(),
+            ),
             ("extlangs", rows.extlangs.as_slice()),
             ("extlangs_preferred", rows.extlangs_preferred.as_slice()),
             ("scripts", rows.scripts.as_slice()),
@@ -77,7 +80,10 @@ fn of_registry(alloc: Global, rows: &RegistryRows) -> Result<Value, AllocError> 
             ("regions_preferred", rows.regions_preferred.as_slice()),
             ("variants", rows.variants.as_slice()),
             ("variants_preferred", rows.variants_preferred.as_slice()),
-            ("grandfathereds_preferred", rows.grandfathereds_preferred.as_slice()),
+            (
+                "grandfathereds_preferred",
+                rows.grandfathereds_preferred.as_slice(),
+            ),
             ("redundants_preferred", rows.redundants_preferred.as_slice()),
         ],
     )
@@ -88,8 +94,14 @@ fn of_fallback(alloc: Global, rows: &FallbackRows) -> Result<Value, AllocError> 
         alloc,
         &[
             ("likely_language", rows.likely_language.as_slice()),
-            ("likely_language_script", rows.likely_language_script.as_slice()),
-            ("likely_language_region", rows.likely_language_region.as_slice()),
+            (
+                "likely_language_script",
+                rows.likely_language_script.as_slice(),
+            ),
+            (
+                "likely_language_region",
+                rows.likely_language_region.as_slice(),
+            ),
             ("parents", rows.parents.as_slice()),
         ],
     )
@@ -153,7 +165,10 @@ fn of_request(alloc: Global, request: &Request) -> Result<Value, AllocError> {
     Ok(
         Object::new(alloc)
             .with("tag", of_text(alloc, &request.tag)?)?
-            .with("context", answers::optional_text(alloc, request.context_text())?)?
+            .with(
+                "context",
+                answers::optional_text(alloc, request.context_text())?,
+            )?
             .with("singular", of_text(alloc, &request.singular)?)?
             .with("plural", of_text(alloc, &request.plural)?)?
             .with("count", answers::number(request.count))?

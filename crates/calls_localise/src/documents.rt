@@ -20,11 +20,7 @@ pub fn source_of<'a>(alloc: Global, given: &'a Value) -> Result<Script, Wrong<'a
 }
 
 /// The document of an object's members and of the members that `rest` writes behind them.
-pub fn document<'a>(
-    alloc: Global,
-    given: &'a Value,
-    rest: &str,
-) -> Result<Document, Wrong<'a>> {
+pub fn document<'a>(alloc: Global, given: &'a Value, rest: &str) -> Result<Document, Wrong<'a>> {
     let text = given.to_string(alloc)?;
     let Some(front) = text.as_str().strip_suffix("}") else {
         return Err(Wrong::Argument(given, "an object of a document's members"));

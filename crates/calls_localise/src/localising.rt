@@ -161,7 +161,14 @@ fn rendered<'a>(
         return Err(Wrong::Call);
     };
     let mut sink = ScriptSink::new(alloc, failing);
-    match render(alloc, &tables, &document.bundles, &document.root, request, &mut sink) {
+    match render(
+        alloc,
+        &tables,
+        &document.bundles,
+        &document.root,
+        request,
+        &mut sink,
+    ) {
         Ok(rendered) => Ok(
             Object::new(alloc)
                 .with("text", Value::String(sink.into_string()))?
