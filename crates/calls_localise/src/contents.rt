@@ -1,7 +1,7 @@
-//! The call of `localise_document`. A document is said as for a run (see `program`), and is answered
-//! by its contents: of each table that isn't empty the rows, which have three texts each; patterns
-//! as a list of start, middle, end, pair, the end special and the pair special. A special is a list
-//! of its condition and its pattern, or null.
+//! The call of `localise_document`. A document is said as for a run (see `program`), and is
+//! answered by its contents: of each table that isn't empty the rows, which have three texts each;
+//! patterns as a list of start, middle, end, pair, the end special and the pair special. A special
+//! is a list of its condition and its pattern, or null.
 
 use crate::documents::source_of;
 use calls::answers;

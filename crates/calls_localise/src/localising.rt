@@ -1,10 +1,10 @@
 //! Calls of localisers. A localiser is an object of a document's members `registry`, `fallback`,
-//! `bundles` and `root`, tables are one of the first two; a request is one of a document's; an error
-//! is said by what is refused with it.
+//! `bundles` and `root`, tables are one of the first two; a request is one of a document's; an
+//! error is said by what is refused with it.
 //!
 //! `Found` is asked as `find` is: `Found::write_to` over a sink of 64 bytes. `render` takes the
-//! numbers of the pushes at which its sink fails, if there are any, and a refusal of it stands beside
-//! the text that the sink took.
+//! numbers of the pushes at which its sink fails, if there are any, and a refusal of it stands
+//! beside the text that the sink took.
 
 use crate::documents::{document, tables};
 use crate::refusals::{of_render, of_tag};

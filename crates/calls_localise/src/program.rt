@@ -2,12 +2,12 @@
 //! fails, if there are any.
 //!
 //! A document is a text; an object with the member `most`, which is a source (see
-//! `calls::scripts`); or any other value, which is its own text. A run is answered by its status and
-//! exit code, and by what the output and the error sink took. A status is its name.
+//! `calls::scripts`); or any other value, which is its own text. A run is answered by its status
+//! and exit code, and by what the output and the error sink took. A status is its name.
 //!
-//! With `"each"` in place of the numbers the program runs with its first push failing, then with its
-//! second, and so on while the answer is `WriteFault`. Then the answer is that of the last run, and
-//! whether each output was a front of the output where nothing fails.
+//! With `"each"` in place of the numbers the program runs with its first push failing, then with
+//! its second, and so on while the answer is `WriteFault`. Then the answer is that of the last run,
+//! and whether each output was a front of the output where nothing fails.
 
 use crate::documents::source_of;
 use calls::answers;

@@ -62,13 +62,13 @@ fn flushed_run(alloc: Global, document: &[u8], fails: bool) -> Result<Ended, Fai
 }
 
 /// A document of no bundle and one request.
-const DOCUMENT: &[u8] =
-    b"{\"bundles\":[],\"requests\":[{\"tag\":\"fr\",\"singular\":\"Hi\",\"plural\":\"Hi\",\"count\":1}]}";
+const DOCUMENT: &[u8] = b"{\"bundles\":[],\"requests\":[\
+    {\"tag\":\"fr\",\"singular\":\"Hi\",\"plural\":\"Hi\",\"count\":1}]}";
 
 /// The same, and a request behind it whose tag is none.
-const HALF: &[u8] =
-    b"{\"bundles\":[],\"requests\":[{\"tag\":\"fr\",\"singular\":\"Hi\",\"plural\":\"Hi\",\"count\":1},\
-      {\"tag\":\"\",\"singular\":\"Hi\",\"plural\":\"Hi\",\"count\":1}]}";
+const HALF: &[u8] = b"{\"bundles\":[],\"requests\":[\
+    {\"tag\":\"fr\",\"singular\":\"Hi\",\"plural\":\"Hi\",\"count\":1},\
+    {\"tag\":\"\",\"singular\":\"Hi\",\"plural\":\"Hi\",\"count\":1}]}";
 
 #[test]
 fn a_run_is_flushed(rt: HostRuntime) -> Result<(), Fail> {
