@@ -1,6 +1,7 @@
-//! Localisers and requests, as members of a document.
+//! Documents, and localisers and requests as members of one.
 
 use calls::arguments::Wrong;
+use calls::scripts::{Script, script_of};
 use icu_locale_fallback::LocaleFallbacker;
 use language_tags::Registry;
 use localise_document::{Document, DocumentError, read_document};
@@ -8,12 +9,18 @@ use serde_json::Value;
 use std::alloc::Global;
 use wanted_locale::Tables;
 
+/// What gives the bytes of a document: a text, an object with the member `most`, which is a source,
+/// or any other value, which is its own text.
+pub fn source_of<'a>(alloc: Global, given: &'a Value) -> Result<Script, Wrong<'a>> {
+    match given {
+        Value::String(text) => Ok(Script::of_text(alloc, text.as_str())?),
+        _ if given.get("most").is_some() => script_of(alloc, given),
+        _ => Ok(Script::of_text(alloc, given.to_string(alloc)?.as_str())?),
+    }
+}
+
 /// The document of an object's members and of the members that `rest` writes behind them.
-pub fn document<'a>(
-    alloc: Global,
-    given: &'a Value,
-    rest: &str,
-) -> Result<Document, Wrong<'a>> {
+pub fn document<'a>(alloc: Global, given: &'a Value, rest: &str) -> Result<Document, Wrong<'a>> {
     let text = given.to_string(alloc)?;
     let Some(front) = text.as_str().strip_suffix("}") else {
         return Err(Wrong::Argument(given, "an object of a document's members"));

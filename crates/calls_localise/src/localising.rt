@@ -1,18 +1,23 @@
 //! Calls of localisers. A localiser is an object of a document's members `registry`, `fallback`,
-//! `bundles` and `root`, tables are one of the first two; a request is one of a document's; an error
-//! is said by what is refused with it.
+//! `bundles` and `root`, tables are one of the first two; a request is one of a document's; an
+//! error is said by what is refused with it.
+//!
+//! `Found` is asked as `find` is: `Found::write_to` over a sink of 64 bytes. `render` takes the
+//! numbers of the pushes at which its sink fails, if there are any, and a refusal of it stands
+//! beside the text that the sink took.
 
 use crate::documents::{document, tables};
 use crate::refusals::{of_render, of_tag};
 use calls::answers;
 use calls::answers::{Answer, Object, printed};
-use calls::arguments::{Wrong, size, text};
+use calls::arguments::{Wrong, numbers, size, text};
 use icu_locale_core::DataLocale;
 use localise::{ChainLoops, Found, Localiser, RenderError, render};
 use localise_document::Document;
 use serde_json::Value;
 use std::alloc::{AllocError, Global};
-use writeable::{StringSink, Writeable};
+use std::borrow::CowStr;
+use writeable::{FixedSink, ScriptSink, SinkError, Writeable};
 
 /// A call of `localise`, by its path.
 pub fn answer<'a>(alloc: Global, call: &str, arguments: &'a [Value]) -> Answer<'a> {
@@ -26,7 +31,10 @@ pub fn answer<'a>(alloc: Global, call: &str, arguments: &'a [Value]) -> Answer<'
                 Err(cause) => Ok(of_tag(alloc, cause)?),
             }
         }
-        ("render", [given, request]) => rendered(alloc, given, request),
+        ("render", [given, request]) => rendered(alloc, given, request, Vec::new(alloc)),
+        ("render", [given, request, failing]) => {
+            rendered(alloc, given, request, numbers(alloc, failing)?)
+        }
         ("ChainLoops::text", []) => Ok(answers::text(alloc, ChainLoops.text())?),
         (call, [given, others @ ..]) => of_localiser(alloc, call, given, others),
         _ => Err(Wrong::Call),
@@ -56,7 +64,7 @@ fn of_localiser<'a>(
             }
             Ok(answers::bytes(alloc, localiser.catalog(number).buffer())?)
         }
-        ("Localiser::find", [wanted, _]) => found(alloc, &localiser, wanted, &document),
+        (call, [wanted, _]) => found(alloc, call, &localiser, wanted, &document),
         _ => Err(Wrong::Call),
     }
 }
@@ -82,8 +90,10 @@ fn refused<'a>(alloc: Global, call: &str, error: RenderError) -> Answer<'a> {
     }
 }
 
+/// What is found for the first request, as the call asks for it.
 fn found<'a>(
     alloc: Global,
+    call: &str,
     localiser: &Localiser<'_>,
     wanted: &'a Value,
     document: &Document,
@@ -94,10 +104,14 @@ fn found<'a>(
     let Some(request) = document.requests.first() else {
         return Err(Wrong::Call);
     };
-    match localiser.find(locale, request) {
-        Ok(found) => Ok(of_found(alloc, &found)?),
-        Err(ChainLoops) => Ok(answers::refused(alloc, "ChainLoops")?),
-    }
+    let answer = match (call, localiser.find(locale, request)) {
+        ("Localiser::find", Ok(found)) => of_found(alloc, &found),
+        ("Found::write_to", Ok(found)) => in_64_bytes(alloc, &found),
+        ("Found::write_to_string", Ok(found)) => in_a_string(alloc, &found),
+        (_, Err(ChainLoops)) => answers::refused(alloc, "ChainLoops"),
+        _ => return Err(Wrong::Call),
+    };
+    Ok(answer?)
 }
 
 fn of_found(alloc: Global, found: &Found<'_>) -> Result<Value, AllocError> {
@@ -113,15 +127,48 @@ fn of_found(alloc: Global, found: &Found<'_>) -> Result<Value, AllocError> {
     )
 }
 
-fn rendered<'a>(alloc: Global, given: &'a Value, request: &'a Value) -> Answer<'a> {
+fn in_64_bytes(alloc: Global, found: &Found<'_>) -> Result<Value, AllocError> {
+    let mut sink = FixedSink::<64>::new();
+    match found.write_to(&mut sink) {
+        Ok(()) => answers::text(alloc, sink.as_str()),
+        Err(SinkError::Fault) => answers::refused(alloc, "Fault"),
+        Err(SinkError::NoMemory) => answers::refused(alloc, "NoMemory"),
+    }
+}
+
+fn in_a_string(alloc: Global, found: &Found<'_>) -> Result<Value, AllocError> {
+    let written = found.write_to_string(alloc)?;
+    let borrowed = matches!(written, CowStr::Borrowed(_));
+    let text = Value::String(written.into_owned(alloc)?);
+    Ok(
+        Object::new(alloc)
+            .with("text", text)?
+            .with("borrowed", Value::Bool(borrowed))?
+            .value(),
+    )
+}
+
+fn rendered<'a>(
+    alloc: Global,
+    given: &'a Value,
+    request: &'a Value,
+    failing: Vec<u64>,
+) -> Answer<'a> {
     let requests = format!(in alloc; "\"requests\":[{}]", request.to_string(alloc)?)?;
     let document = document(alloc, given, requests.as_str())?;
     let tables = tables(alloc, given, &document)?;
     let Some(request) = document.requests.first() else {
         return Err(Wrong::Call);
     };
-    let mut sink = StringSink::new(alloc);
-    match render(alloc, &tables, &document.bundles, &document.root, request, &mut sink) {
+    let mut sink = ScriptSink::new(alloc, failing);
+    match render(
+        alloc,
+        &tables,
+        &document.bundles,
+        &document.root,
+        request,
+        &mut sink,
+    ) {
         Ok(rendered) => Ok(
             Object::new(alloc)
                 .with("text", Value::String(sink.into_string()))?
@@ -131,6 +178,14 @@ fn rendered<'a>(alloc: Global, given: &'a Value, request: &'a Value) -> Answer<'
                 .with("hint", answers::hint(alloc, rendered.hint)?)?
                 .value(),
         ),
-        Err(error) => Ok(of_render(alloc, error)?),
+        Err(error) => {
+            let refusal = of_render(alloc, error)?;
+            Ok(
+                Object::new(alloc)
+                    .with("refusal", refusal)?
+                    .with("text", Value::String(sink.into_string()))?
+                    .value(),
+            )
+        }
     }
 }

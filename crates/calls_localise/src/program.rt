@@ -2,19 +2,24 @@
 //! fails, if there are any.
 //!
 //! A document is a text; an object with the member `most`, which is a source (see
-//! `calls::scripts`); or any other value, which is its own text. A run is answered by its status and
-//! exit code, and by what the output and the error sink took. A status is its name.
+//! `calls::scripts`); or any other value, which is its own text. A run is answered by its status
+//! and exit code, and by what the output and the error sink took. A status is its name.
+//!
+//! With `"each"` in place of the numbers the program runs with its first push failing, then with
+//! its second, and so on while the answer is `WriteFault`. Then the answer is that of the last run,
+//! and whether each output was a front of the output where nothing fails.
 
+use crate::documents::source_of;
 use calls::answers;
 use calls::answers::{Answer, Object};
 use calls::arguments::{Wrong, list, numbers, text};
-use calls::scripts::{Script, script_of};
+use calls::scripts::Script;
 use icu_list::DataError;
 use language_tags::RegistryError;
 use localise::BundleCause;
 use localise_run::{Field, RequestCause, Section, ShapePlace, Status, TableCause, run};
 use serde_json::Value;
-use std::alloc::Global;
+use std::alloc::{AllocError, Global};
 use wanted_locale::TagCause;
 use writeable::{ScriptSink, StringSink};
 
@@ -23,12 +28,16 @@ pub fn answer<'a>(alloc: Global, call: &str, arguments: &'a [Value]) -> Answer<'
     match (call, arguments) {
         ("run", [words, given]) => {
             let words = texts(alloc, words)?;
-            run_into(alloc, &words, &document(alloc, given)?, Vec::new(alloc))
+            run_into(alloc, &words, &source_of(alloc, given)?, Vec::new(alloc))
+        }
+        ("run", [words, given, Value::String(each)]) if each.as_str() == "each" => {
+            let words = texts(alloc, words)?;
+            run_into_each(alloc, &words, &source_of(alloc, given)?)
         }
         ("run", [words, given, failing]) => {
             let words = texts(alloc, words)?;
             let failing = numbers(alloc, failing)?;
-            run_into(alloc, &words, &document(alloc, given)?, failing)
+            run_into(alloc, &words, &source_of(alloc, given)?, failing)
         }
         ("Status::code", [status]) => Ok(exit_code(status_of(status)?)),
         _ => Err(Wrong::Call),
@@ -43,12 +52,35 @@ fn texts<'a>(alloc: Global, given: &'a Value) -> Result<Vec<String>, Wrong<'a>> 
     Ok(texts)
 }
 
-fn document<'a>(alloc: Global, given: &'a Value) -> Result<Script, Wrong<'a>> {
-    match given {
-        Value::String(text) => Ok(Script::of_text(alloc, text.as_str())?),
-        _ if given.get("most").is_some() => script_of(alloc, given),
-        _ => Ok(Script::of_text(alloc, given.to_string(alloc)?.as_str())?),
+/// How a run ended, and what its sinks took.
+#[derive(Drop)]
+struct Outcome {
+    status: Status,
+    output: String,
+    errors: String,
+}
+
+fn run_once(alloc: Global, words: &[String], document: &Script, failing: Vec<u64>) -> Outcome {
+    let mut out = ScriptSink::new(alloc, failing);
+    let mut err = StringSink::new(alloc);
+    let status = run(alloc, words, &mut document.source(), &mut out, &mut err);
+    Outcome {
+        status,
+        output: out.into_string(),
+        errors: err.into_string(),
     }
+}
+
+fn of_outcome(alloc: Global, outcome: Outcome) -> Result<Value, AllocError> {
+    let status = answers::text(alloc, name(outcome.status))?;
+    Ok(
+        Object::new(alloc)
+            .with("status", status)?
+            .with("code", exit_code(outcome.status))?
+            .with("output", Value::String(outcome.output))?
+            .with("errors", Value::String(outcome.errors))?
+            .value(),
+    )
 }
 
 fn run_into<'a>(
@@ -57,19 +89,28 @@ fn run_into<'a>(
     document: &Script,
     failing: Vec<u64>,
 ) -> Answer<'a> {
-    let mut out = ScriptSink::new(alloc, failing);
-    let mut err = StringSink::new(alloc);
-    let status = run(alloc, words, &mut document.source(), &mut out, &mut err);
-    let output = Value::String(out.into_string());
-    let errors = Value::String(err.into_string());
-    let code = exit_code(status);
-    let status = answers::text(alloc, name(status))?;
+    Ok(of_outcome(alloc, run_once(alloc, words, document, failing))?)
+}
+
+/// The most pushes that fail in turn.
+const MOST_PUSHES: u64 = 10_000;
+
+fn run_into_each<'a>(alloc: Global, words: &[String], document: &Script) -> Answer<'a> {
+    let whole = run_once(alloc, words, document, Vec::new(alloc));
+    let mut last = run_once(alloc, words, document, vec![in alloc; 1]?);
+    let mut fronts = whole.output.starts_with(last.output.as_str());
+    for push in 2..MOST_PUSHES {
+        if last.status != Status::WriteFault {
+            break;
+        }
+        last = run_once(alloc, words, document, vec![in alloc; push]?);
+        fronts = fronts && whole.output.starts_with(last.output.as_str());
+    }
+    let last = of_outcome(alloc, last)?;
     Ok(
         Object::new(alloc)
-            .with("status", status)?
-            .with("code", code)?
-            .with("output", output)?
-            .with("errors", errors)?
+            .with("last", last)?
+            .with("fronts", Value::Bool(fronts))?
             .value(),
     )
 }

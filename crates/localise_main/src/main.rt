@@ -37,5 +37,6 @@ fn run_buffered(rt: &HostRuntime, words: &[String]) -> Status {
     let Ok(buffer) = BufWriter::with_capacity(rt.alloc(), BUFFER, io::writer(rt)) else {
         return Status::NoMemory;
     };
-    run_and_flush(rt.alloc(), words, &mut source, buffer, &mut err)
+    let mut out = StdSink::new(buffer);
+    run_and_flush(rt.alloc(), words, &mut source, &mut out, &mut err)
 }

@@ -80,6 +80,7 @@ fn too_long_for_a_run(rt: HostRuntime) -> Result<(), Fail> {
     let status = run(rt.alloc(), &words, &mut Spaces, &mut out, &mut err);
     assert!(rt; status == Status::TooLong);
     assert_eq!(rt; out.as_str(), "");
+    assert_eq!(rt; err.as_str(), "localise: input too long\n");
     Ok(())
 }
 
@@ -90,6 +91,7 @@ fn no_memory(rt: HostRuntime) -> Result<(), Fail> {
     let mut err = StringSink::new(rt.alloc());
     let status = run(rt.alloc(), &words, &mut source, &mut Full, &mut err);
     assert!(rt; status == Status::NoMemory);
+    assert_eq!(rt; err.as_str(), "localise: no memory\n");
     Ok(())
 }
 

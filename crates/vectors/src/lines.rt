@@ -4,7 +4,7 @@ use calls::answers::{Answer, Object};
 use calls::arguments::Wrong;
 use calls_catalogs::reads;
 use calls_locales::{fallback, locales, tags};
-use calls_localise::{localising, program};
+use calls_localise::{contents, localising, program};
 use serde_json::{Error, Value};
 use std::alloc::{AllocError, Global};
 
@@ -94,6 +94,7 @@ fn answer<'a>(alloc: Global, path: &str, arguments: &'a [Value]) -> Answer<'a> {
         "icu_list" => calls_lists::answer(alloc, call, arguments),
         "reading" => reads::answer(alloc, call, arguments),
         "gettext" => calls_catalogs::answer(alloc, call, arguments),
+        "localise_document" => contents::answer(alloc, call, arguments),
         "localise" => localising::answer(alloc, call, arguments),
         "localise_run" => program::answer(alloc, call, arguments),
         _ => Err(Wrong::Call),
