@@ -16,8 +16,8 @@ use Rattle.wanted_locale.specs.declared.error.TagCause.{TagCause}
 use Rattle.wanted_locale.specs.declared.tables.Tables.{Tables}
 
 module _ (T U : Tables) (same : T.fallbacker ≡ U.fallbacker)
-         (wanted_along : (text : List ℕ) (l : Locale) → IsWantedOf T.registry text l → IsWantedOf U.registry text l)
-         (cause_along : (text : List ℕ) (cause : TagCause) → IsTagCause T.registry text cause → IsTagCause U.registry text cause) where
+    (wanted_along : (text : List ℕ) (l : Locale) → IsWantedOf T.registry text l → IsWantedOf U.registry text l)
+    (cause_along : (text : List ℕ) (cause : TagCause) → IsTagCause T.registry text cause → IsTagCause U.registry text cause) where
   -- a tag's locale
   locale_along : (text : List ℕ) (l : Locale) → IsLocaleOf T text l → IsLocaleOf U text l
   locale_along text l h = record {

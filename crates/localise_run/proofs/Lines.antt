@@ -46,8 +46,8 @@ module _ (Line : Request → List ℕ → Type 0) (Fault : Request → RequestCa
   line_of_all (p ∷ qs) (suc i) q text is h = line_of_all qs i q h.1 is h.3
 
   module _ (one_line : (q : Request) (s t : List ℕ) → Line q s → Line q t → s ≡ t)
-           (one_fault : (q : Request) (c d : RequestCause) → Fault q c → Fault q d → c ≡ d)
-           (apart : (q : Request) (s : List ℕ) (c : RequestCause) → Line q s → Fault q c → ⊥) where
+      (one_fault : (q : Request) (c d : RequestCause) → Fault q c → Fault q d → c ≡ d)
+      (apart : (q : Request) (s : List ℕ) (c : RequestCause) → Line q s → Fault q c → ⊥) where
     -- requests have one text of lines
     pub one_lines : (qs : List Request) (s t : List ℕ) → AreLines Line Fault qs s → AreLines Line Fault qs t → s ≡ t
     one_lines [] s t h g = h ∙ sym g
@@ -73,8 +73,7 @@ module _ (Line : Request → List ℕ → Type 0) (Fault : Request → RequestCa
         → (c ≡ d) × (s ≡ t)
     stops_once qs i j c d s t same h g =
         let there : slice_get qs j ≡ Some h.request = subst (λ k. slice_get qs k ≡ Some h.request) same h.request_is in
-        let q : h.request ≡ g.request = let a = there in let b = g.request_is in cc in
-        (
+        let q : h.request ≡ g.request = let a = there in let b = g.request_is in cc in (
           one_fault g.request c d (subst (λ r. Fault r c) q h.fault) g.fault,
           one_lines (take j qs) s t (subst (λ k. AreLines Line Fault (take k qs) s) same h.before) g.before,
         )
@@ -94,8 +93,8 @@ module _ (Line : Request → List ℕ → Type 0) (Fault : Request → RequestCa
 
 -- requests are answered alike by lines and faults that hold where others do
 module _ (Line More : Request → List ℕ → Type 0) (Fault Other : Request → RequestCause → Type 0)
-         (line : (q : Request) (text : List ℕ) → Line q text → More q text)
-         (fault : (q : Request) (cause : RequestCause) → Fault q cause → Other q cause) where
+    (line : (q : Request) (text : List ℕ) → Line q text → More q text)
+    (fault : (q : Request) (cause : RequestCause) → Fault q cause → Other q cause) where
   pub lines_along : (qs : List Request) (text : List ℕ) → AreLines Line Fault qs text → AreLines More Other qs text
   lines_along [] text h = h
   lines_along (q ∷ qs) text h = (h.0, h.1, line q h.0 h.2, lines_along qs h.1 h.3, h.4)

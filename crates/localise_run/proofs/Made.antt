@@ -8,6 +8,7 @@ use Rattle.std.proofs.lemmas.List.{get_or_default, get_or_push, get_or_append_le
 use Rattle.icu_list.specs.Patterns.{Patterns}
 use Rattle.icu_locale_core.specs.Locale.{Locale}
 use Rattle.localise.specs.Meaning.{Meaning}
+use Rattle.localise_run.proofs.Lines.{got}
 use Rattle.localise_run.specs.Generating.{AreVisited, Visits, known, made, made_from}
 use Rattle.localise_run.specs.Wanting.{Wants}
 use Rattle.localise_texts.specs.declared.request.Request.{Request}
@@ -53,8 +54,8 @@ remade_none old = record { same_length = refl; same_made = λ j k q. refl }
 pub remade_more : (old now : List Request) (place number : ℕ) (r : Request) → AreRemade old now → place < length now
     → r ≡ get_or now place r → AreRemade old (set now place (made_from number r))
 remade_more old now place number r h within is = record {
-    same_length = length-set now place (made_from number r) ∙ h.same_length;
-    same_made = λ (j : ℕ) (k : ℕ) (q : Request).
+  same_length = length-set now place (made_from number r) ∙ h.same_length;
+  same_made = λ (j : ℕ) (k : ℕ) (q : Request).
       elim (cases_eq k place) [
         | inl same ↦
             ap (λ (i : ℕ). made_from j (get_or (set now place (made_from number r)) i q)) same
@@ -64,7 +65,7 @@ remade_more old now place number r h within is = record {
             ∙ h.same_made j k q
         | inr other ↦ ap (made_from j) (get_or-set_other now place k (made_from number r) q other) ∙ h.same_made j k q
       ];
-  }
+}
 
 -- what it is remade to is the made request
 pub remade_is : (old now : List Request) (n number : ℕ) (r q : Request) → AreRemade old now → 0 < length old → number < n
@@ -76,6 +77,31 @@ remade_is old now n number r q h some within is =
     ∙ ap (λ (m : ℕ). made_from number (get_or old (number % m) q)) h.same_length
     ∙ ap (λ (k : ℕ). made_from k (get_or old (k % length old) q)) (sym (zero-add number))
     ∙ sym (made_at old n number 0 q some within)
+
+module _ (old now : List Request) (h : AreRemade old now) (some : 0 < length old) (n count : ℕ) (within : n < count)
+    (r made_request : Request) (is : r ≡ get_or now (n % length now) r) (is_made : made_request ≡ made_from n r) where
+  pub place_within : n % length now < length now
+  place_within = mod-lt n (omega (arith, some, h.same_length))
+
+  -- the request at the place, once it is remade
+  pub read_back : (q : Request) → get_or (set now (n % length now) made_request) (n % length now) q ≡ made_request
+  read_back q = get_or-set_same now (n % length now) made_request q place_within
+
+  -- it is the next made request
+  pub in_made : n < length (made old 0 count)
+  in_made = omega (arith, within, made_length old count 0 some)
+
+  pub stands : made_request ≡ get_or (made old 0 count) n made_request
+  stands = is_made ∙ remade_is old now count n r made_request h some within is
+
+  pub got_made : slice_get (made old 0 count) n ≡ Some made_request
+  got_made = got (made old 0 count) n made_request in_made stands
+
+  -- and the requests are still made from the document's
+  pub remade_next : AreRemade old (set now (n % length now) made_request)
+  remade_next =
+      subst (λ (q : Request). AreRemade old (set now (n % length now) q)) (sym is_made)
+      (remade_more old now (n % length now) n r h place_within is)
 
 -- ---- the locales that they ask for
 
@@ -95,7 +121,7 @@ module _ (T : Tables) (old now : List Request) (h : AreRemade old now) where
   known_is locales number place r l knows within is at =
       let there = slice_get_within locales place l at in
       let same : made_from 0 (get_or old place r) ≡ made_from 0 r =
-          sym (h.same_made 0 place r) ∙ ap (made_from 0) (sym is) in
+      sym (h.same_made 0 place r) ∙ ap (made_from 0) (sym is) in
       subst (λ (m : Locale). Wants T r m) (get_or_from_slice_get locales place l l at)
       (same_tag T (get_or old place r) r 0 (get_or locales place l) same (knows.known_at place r l there))
 
@@ -123,12 +149,12 @@ module _ (T : Tables) (old now : List Request) (h : AreRemade old now) where
       among : number % length now < length locales → AreKnown T old locales (number + 1)
       among less = record {
         count =
-          elim (cases_lt number (length old)) [
-            | inl within ↦
-                let here : number % length now ≡ number = mod-eq_of_lt (omega (arith, within, h.same_length)) in
-                absurd (omega (arith, less, here, within, knows.count))
-            | inr past ↦ omega (arith, past, knows.count)
-          ];
+            elim (cases_lt number (length old)) [
+              | inl within ↦
+                  let here : number % length now ≡ number = mod-eq_of_lt (omega (arith, within, h.same_length)) in
+                  absurd (omega (arith, less, here, within, knows.count))
+              | inr past ↦ omega (arith, past, knows.count)
+            ];
         known_at = knows.known_at;
       }
 
@@ -138,16 +164,16 @@ module _ (T : Tables) (old now : List Request) (h : AreRemade old now) where
           record {
             count = omega (arith, length_push locales l, at.0, at.2);
             known_at = λ (k : ℕ) (q : Request) (m : Locale) below.
-              elim (cases_lt k (length locales)) [
-                | inl less ↦ subst (λ (n : Locale). Wants T (get_or old k q) n) (sym (get_or_append_left locales (l ∷ []) m k less)) (knows.known_at k q m less)
-                | inr past ↦
-                    let here : k ≡ number % length now = omega (arith, below, past, length_push locales l, at.1, at.2) in
-                    let ends : length locales ≡ k = omega (arith, here, at.1, at.2) in
-                    let within : k < length now = omega (arith, here, at.0, at.1, h.same_length) in
-                    let same : made_from 0 r ≡ made_from 0 (get_or old k q) =
-                        ap (made_from 0) (is ∙ ap (λ (i : ℕ). get_or now i r) (sym here) ∙ get_or_default now k r q within) ∙ h.same_made 0 k q in
-                    subst (λ (n : Locale). Wants T (get_or old k q) n) (sym (get_or_push locales l m k ends)) (same_tag T r (get_or old k q) 0 l same wants)
-              ];
+                elim (cases_lt k (length locales)) [
+                  | inl less ↦ subst (λ (n : Locale). Wants T (get_or old k q) n) (sym (get_or_append_left locales (l ∷ []) m k less)) (knows.known_at k q m less)
+                  | inr past ↦
+                      let here : k ≡ number % length now = omega (arith, below, past, length_push locales l, at.1, at.2) in
+                      let ends : length locales ≡ k = omega (arith, here, at.1, at.2) in
+                      let within : k < length now = omega (arith, here, at.0, at.1, h.same_length) in
+                      let same : made_from 0 r ≡ made_from 0 (get_or old k q) =
+                      ap (made_from 0) (is ∙ ap (λ (i : ℕ). get_or now i r) (sym here) ∙ get_or_default now k r q within) ∙ h.same_made 0 k q in
+                      subst (λ (n : Locale). Wants T (get_or old k q) n) (sym (get_or_push locales l m k ends)) (same_tag T r (get_or old k q) 0 l same wants)
+                ];
           }
 
 -- ---- how many locales are visited for them

@@ -21,7 +21,7 @@ use Rattle.localise_run.specs.Tables.{HasTables, IsTableStatus, faulty}
 use Rattle.localise_run.specs.Tables.{no_memory as no_table_memory}
 use Rattle.localise_run.specs.declared.command.Command.{Command}
 use Rattle.localise_run.specs.declared.command.Command.TheVariants.{Render, Walk, Generate}
-use Rattle.localise_status.specs.Classes.{IsFailure, IsOfBytes, class_of}
+use Rattle.localise_status.specs.Classes.{IsFailure, class_of}
 use Rattle.localise_status.specs.FaultLines.{IsReported, whole, front}
 use Rattle.localise_status.specs.declared.status.Status.{Status}
 use Rattle.localise_status.specs.declared.status.Status.TheVariants.{Done, BadWords, NotJson, Shape, Table, Bundle, DuplicateLocale, Root, Request as OfRequest, ReadFault, WriteFault, NoMemory, TooLong}
@@ -112,21 +112,26 @@ module _ {O : Type 0} (took : O → List ℕ → O → Type 0) (faults : O → �
   given old new bytes status all g = record { bytes = bytes; read = told left bytes all; gives = g }
 
   -- all bytes were read
-  pub bytes_run : (old new : O) (bytes : List ℕ) (status : Status) → IfSome left (λ t. bytes ≡ t) → IsOfBytes status
+  pub bytes_run : (old new : O) (bytes : List ℕ) (status : Status) → IfSome left (λ t. bytes ≡ t)
       → Gives took (Says command bytes) (SaysFirst command bytes) (written faults old new) status → RunsTo old new status
-  bytes_run old new bytes Done all of g = given old new bytes Done all g
-  bytes_run old new bytes BadWords all of g = absurd of
-  bytes_run old new bytes NotJson all of g = given old new bytes NotJson all g
-  bytes_run old new bytes (Shape place) all of g = given old new bytes (Shape place) all g
-  bytes_run old new bytes (Table cause) all of g = given old new bytes (Table cause) all g
-  bytes_run old new bytes (Bundle i cause) all of g = given old new bytes (Bundle i cause) all g
-  bytes_run old new bytes (DuplicateLocale i) all of g = given old new bytes (DuplicateLocale i) all g
-  bytes_run old new bytes (Root fault) all of g = given old new bytes (Root fault) all g
-  bytes_run old new bytes (OfRequest i cause) all of g = given old new bytes (OfRequest i cause) all g
-  bytes_run old new bytes ReadFault all of g = absurd of
-  bytes_run old new bytes WriteFault all of g = given old new bytes WriteFault all g
-  bytes_run old new bytes NoMemory all of g = given old new bytes NoMemory all g
-  bytes_run old new bytes TooLong all of g = absurd of
+  bytes_run old new bytes Done all g = given old new bytes Done all g
+  bytes_run old new bytes BadWords all g = absurd g
+  bytes_run old new bytes NotJson all g = given old new bytes NotJson all g
+  bytes_run old new bytes (Shape place) all g = given old new bytes (Shape place) all g
+  bytes_run old new bytes (Table cause) all g = given old new bytes (Table cause) all g
+  bytes_run old new bytes (Bundle i cause) all g = given old new bytes (Bundle i cause) all g
+  bytes_run old new bytes (DuplicateLocale i) all g = given old new bytes (DuplicateLocale i) all g
+  bytes_run old new bytes (Root fault) all g = given old new bytes (Root fault) all g
+  bytes_run old new bytes (OfRequest i cause) all g = given old new bytes (OfRequest i cause) all g
+  bytes_run old new bytes ReadFault all g = absurd g
+  bytes_run old new bytes WriteFault all g = given old new bytes WriteFault all g
+  bytes_run old new bytes NoMemory all g = given old new bytes NoMemory all g
+  bytes_run old new bytes TooLong all g = given old new bytes TooLong all g
+
+-- bytes don't say that words are no command
+pub never_words : {O : Type 0} (took : O → List ℕ → O → Type 0) (Says : Status → List ℕ → Type 0) (First : List ℕ → Type 0) (x : Written O)
+    (status : Status) → Gives took Says First x status → status ≡ BadWords → ⊥
+never_words took Says First x status g same = subst (Gives took Says First x) same g
 
 -- bytes that a source may have had, if it has told none
 some_read : (left : Option (List ℕ)) → (bytes : List ℕ) × AreRead left bytes
@@ -183,8 +188,7 @@ module _ {O : Type 0} (took : O → List ℕ → O → Type 0) (faults : O → �
       → (status : Status) → status ≡ Done → Ran status
       → (bytes : List ℕ) × AreRead left bytes × ((lines : List ℕ) × Says command bytes Done lines × Appended took held old lines new)
   headline held took_held status done ran =
-      let r : Ran Done = subst Ran done ran in
-      (
+      let r : Ran Done = subst Ran done ran in (
         r.bytes,
         r.read,
         (r.gives.text, r.gives.says, record { taken = r.gives.taken; told = λ (h : List ℕ) is. took_held old new r.gives.text h r.gives.taken is }),
@@ -261,7 +265,7 @@ module _ {O : Type 0} (took : O → List ℕ → O → Type 0) (faults : O → �
           → (Rose before now → ⊥) → (Rose (faults old) (faults new) → ⊥) → (status ≡ Done) ⊎ (status ≡ NoMemory))
       by None h = tt
       by (Some t) h = λ (lines : List ℕ) says source out.
-          elim (h Done lines says) [ | inl same ↦ inl same | inr fails ↦ inr (unfailing status r fails source out) ]
+          elim (h Done lines says) [ inl same ↦ inl same | inr fails ↦ inr (unfailing status r fails source out) ]
 
 -- ---- what is told of it
 

@@ -25,9 +25,9 @@ pub record WroteTo {O : Type 0} (took : O → List ℕ → O → Type 0) (Line :
   pub taken : took old text mid
 
 module _ {O : Type 0} (took : O → List ℕ → O → Type 0) (faults : O → ℕ)
-         (took_both : (a b c : O) (s t : List ℕ) → took a s b → took b t c → took a (s ++ t) c)
-         (took_faults : (a b : O) (t : List ℕ) → took a t b → faults a ≤ faults b)
-         (Line : Request → List ℕ → Type 0) (Fault : Request → RequestCause → Type 0) (qs : List Request) where
+    (took_both : (a b c : O) (s t : List ℕ) → took a s b → took b t c → took a (s ++ t) c)
+    (took_faults : (a b : O) (t : List ℕ) → took a t b → faults a ≤ faults b)
+    (Line : Request → List ℕ → Type 0) (Fault : Request → RequestCause → Type 0) (qs : List Request) where
   abbrev Wrote : O → ℕ → O → Type 0
   Wrote = WroteTo took Line Fault qs
 

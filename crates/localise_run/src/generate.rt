@@ -24,7 +24,7 @@ use crate::{RequestCause, Status};
 use icu_locale_core::DataLocale;
 use localise::{Localiser, Request};
 use std::alloc::{AllocError, Global};
-use wanted_locale::{TagCause, Tables, wanted};
+use wanted_locale::{Tables, TagCause, wanted};
 use writeable_core::{OwnedText, Sink, SinkError, TextList, Writeable};
 use writeable_sinks::CountSink;
 
@@ -41,7 +41,7 @@ pub(crate) fn write_numbers<O: Sink>(
     alloc: Global,
     tables: &Tables,
     localiser: &Localiser<'_>,
-    mut requests: Vec<Request>,
+    requests: &mut [Request],
     count: u32,
     out: &mut O,
 ) -> Status
@@ -49,11 +49,11 @@ pub(crate) fn write_numbers<O: Sink>(
     requires few { count ≤ 1_000_000 }
     ensures { (bundles : List Meaning) → AreAlike (meanings localiser.now) bundles
         → Gives O.took
-        (AreGenerated tables.now bundles (root_of localiser.now) (made requests.items 0 count))
-        (AreNumbers tables.now bundles (root_of localiser.now) (made requests.items 0 count))
+        (AreGenerated tables.now bundles (root_of localiser.now) (made requests.old 0 count))
+        (AreNumbers tables.now bundles (root_of localiser.now) (made requests.old 0 count))
         (written O.faults out.old out.new) result }
 {
-    match count_lines(alloc, tables, localiser, &mut requests, count) {
+    match count_lines(alloc, tables, localiser, requests, count) {
         Ok(counted) => match write_counted(&counted, out) {
             Ok(()) => Status::Done,
             Err(error) => of_sink(error),
@@ -99,8 +99,17 @@ fn count_lines(
             Ok(locale) => locale,
             Err(cause) => return Err(of_tag(number as usize, cause)),
         };
-        counted.visited +=
-            write_request(tables, localiser, locale, number as usize, request, &mut lines)?;
+        match write_request(
+            tables,
+            localiser,
+            locale,
+            number as usize,
+            request,
+            &mut lines,
+        ) {
+            Ok(visited) => counted.visited += visited,
+            Err(status) => return Err(status),
+        }
     }
     counted.requests = count;
     counted.bytes = lines.bytes();
@@ -127,9 +136,13 @@ fn locale_at(
     if place < locales.len() {
         return Ok(locales[place]);
     }
-    let locale = wanted(alloc, tables, request.tag.as_str())?;
-    locales.push(locale).map_err(|_| TagCause::NoMemory)?;
-    Ok(locale)
+    match wanted(alloc, tables, request.tag.as_str()) {
+        Ok(locale) => match locales.push(locale) {
+            Ok(()) => Ok(locale),
+            Err(_) => Err(TagCause::NoMemory),
+        },
+        Err(cause) => Err(cause),
+    }
 }
 
 /// Gives a request the count and the items of a made request.
@@ -160,11 +173,7 @@ fn write_counted<O: Sink>(counted: &Counted, out: &mut O) -> Result<(), SinkErro
 }
 
 /// Writes a word, a number and a line feed.
-fn write_number<N: Writeable, O: Sink>(
-    word: &str,
-    number: &N,
-    out: &mut O,
-) -> Result<(), SinkError>
+fn write_number<N: Writeable, O: Sink>(word: &str, number: &N, out: &mut O) -> Result<(), SinkError>
     requires { in_ascii word.now ≡ true }
     ensures ok { OnOk result
         (O.took out.old (word.now ++ (N.text number.now ++ 10 ∷ [])) out.new) }

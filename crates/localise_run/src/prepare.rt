@@ -100,9 +100,7 @@ fn of_refusal(error: RenderError) -> Status
         RenderError::Bundle(i, cause) => Status::Bundle(i, cause),
         RenderError::DuplicateLocale(i) => Status::DuplicateLocale(i),
         RenderError::Root(fault) => Status::Root(fault),
-        RenderError::Tag(_)
-        | RenderError::ChainLoops
-        | RenderError::Sink
-        | RenderError::NoMemory => Status::NoMemory,
+        RenderError::Tag(_) | RenderError::ChainLoops | RenderError::Sink | RenderError::NoMemory =>
+            Status::NoMemory,
     }
 }

@@ -18,7 +18,7 @@ use crate::{RequestCause, Status};
 use icu_locale_core::DataLocale;
 use localise::{Localiser, Request};
 use std::alloc::Global;
-use wanted_locale::{TagCause, Tables, wanted};
+use wanted_locale::{Tables, TagCause, wanted};
 use writeable_core::{Sink, SinkError, Writeable};
 
 /// Writes the line of each request, in order, up to the first that gets none.

@@ -1,25 +1,31 @@
 //! Runs, from words and a source to a status.
 
 ghost use Rattle.std.specs.Prelude.{◌≡◌, ◌≢◌, ◌≤◌, ◌↔◌, ◌⊎◌, ℕ, List, IfSome, length};
-ghost use Rattle.localise_document.specs.Contents.{Contents};
-ghost use Rattle.localise_run.specs.Answers.{IsAnswer, IsBegun, Says, SaysFirst};
+ghost use Rattle.localise.specs.Kept.{AreAlike};
+ghost use Rattle.localise.specs.Meaning.{Meaning};
+ghost use Rattle.localise.specs.Views.{meanings, root_of, tables_of};
+ghost use Rattle.localise_run.specs.Answers.{Begins, IsAnswer, IsBegun, IsMade, Says, SaysFirst};
 ghost use Rattle.localise_run.specs.Causes.{status_of_reading};
-ghost use Rattle.localise_status.specs.Classes.{ComesAtEnd, IsFailure, IsOfBytes, class_of};
+ghost use Rattle.localise_status.specs.Classes.{ComesAtEnd, IsFailure, class_of};
 ghost use Rattle.localise_run.specs.Commands.{AreNoCommand, IsCommand};
 ghost use Rattle.localise_status.specs.FaultLines.{IsReported, fault_line};
 ghost use Rattle.localise_run.specs.Run.{AreRead, Appended, Gives, IsFlushed, Runs, RunsAndFlushes, written};
+ghost use Rattle.localise_run.specs.Tables.{HasTables};
 ghost use Rattle.reading.specs.Reading.{IsReadToEnd, most_bytes};
 ghost use Rattle.writeable_core.specs.Sink.{Rose};
 
 use crate::generate::write_numbers;
+use crate::laws::one_answer;
 use crate::prepare::{localiser_of, of_document, tables_of};
 use crate::render::{of_sink, write_lines};
 use crate::walk::write_walks;
 use crate::{Command, Status};
+use localise::{Localiser, Request};
 use localise_document::{Document, read_document};
 use localise_status::write_fault_line;
 use reading::{ReadError, read_all};
 use std::alloc::Global;
+use wanted_locale::Tables;
 use writeable_core::{Sink, Source};
 use writeable_sinks::FlushSink;
 
@@ -66,6 +72,7 @@ pub fn run<S: Source, O: Sink, E: Sink>(
     ensures told { result ≢ Status.Done
         → IsReported E.took E.faults E.takes_memory err.old (fault_line result) err.new }
 {
+    one_answer();
     let status = run_words(alloc, words, source, out);
     report(status, err);
     status
@@ -174,12 +181,11 @@ fn of_reading(error: ReadError) -> Status
 /// Runs a command over the bytes of a document.
 fn run_over<O: Sink>(alloc: Global, command: Command, bytes: Vec<u8>, out: &mut O) -> Status
     requires { length bytes.items ≤ most_bytes }
-    ensures gives { Gives O.took (Says command bytes.items) (SaysFirst command bytes.items)
+    ensures { Gives O.took (Says command bytes.items) (SaysFirst command bytes.items)
         (written O.faults out.old out.new) result }
-    ensures read { IsOfBytes result }
 {
     match read_document(alloc, bytes) {
-        Ok(document) => run_document(alloc, command, document, out),
+        Ok(mut document) => run_document(alloc, command, &mut document, out),
         Err(error) => of_document(error),
     }
 }
@@ -188,35 +194,67 @@ fn run_over<O: Sink>(alloc: Global, command: Command, bytes: Vec<u8>, out: &mut 
 fn run_document<O: Sink>(
     alloc: Global,
     command: Command,
-    document: Document,
+    document: &mut Document,
     out: &mut O,
 ) -> Status
-    ensures gives { Gives O.took (IsAnswer command document) (IsBegun command document)
+    ensures { Gives O.took (IsAnswer command document.old) (IsBegun command document.old)
         (written O.faults out.old out.new) result }
-    ensures read { IsOfBytes result }
 {
-    let Document {
-        registry,
-        fallback,
-        bundles,
-        root,
-        requests,
-    } = document;
-    let tables = match tables_of(alloc, &registry, &fallback) {
-        Ok(tables) => tables,
-        Err(status) => return status,
-    };
-    let localiser = match localiser_of(alloc, &tables, &bundles, &root) {
-        Ok(localiser) => localiser,
-        Err(status) => return status,
-    };
-    // What the localiser keeps of the catalogs is its own.
-    drop(bundles);
+    match tables_of(alloc, &document.registry, &document.fallback) {
+        Ok(tables) => run_bundles(alloc, command, &tables, document, out),
+        Err(status) => status,
+    }
+}
+
+/// Runs a command over a document whose tables stand.
+fn run_bundles<O: Sink>(
+    alloc: Global,
+    command: Command,
+    tables: &Tables,
+    document: &mut Document,
+    out: &mut O,
+) -> Status
+    requires { HasTables document.old tables.now }
+    ensures { Gives O.took (IsAnswer command document.old) (IsBegun command document.old)
+        (written O.faults out.old out.new) result }
+{
+    match localiser_of(alloc, tables, &document.bundles, &document.root) {
+        Ok(localiser) => {
+            // What the localiser keeps of the catalogs is its own.
+            document.bundles.clear();
+            run_requests(
+                alloc,
+                command,
+                tables,
+                &localiser,
+                &mut document.requests,
+                out,
+            )
+        }
+        Err(status) => status,
+    }
+}
+
+/// Runs a command over requests.
+fn run_requests<O: Sink>(
+    alloc: Global,
+    command: Command,
+    tables: &Tables,
+    localiser: &Localiser<'_>,
+    requests: &mut [Request],
+    out: &mut O,
+) -> Status
+    requires { tables_of localiser.now ≡ tables.now }
+    ensures { (bundles : List Meaning) → AreAlike (meanings localiser.now) bundles
+        → Gives O.took (IsMade command tables.now bundles (root_of localiser.now) requests.old)
+        (Begins command tables.now bundles (root_of localiser.now) requests.old)
+        (written O.faults out.old out.new) result }
+{
     match command {
-        Command::Render => write_lines(alloc, &tables, &localiser, &requests, out),
-        Command::Walk => write_walks(alloc, &tables, &requests, out),
+        Command::Render => write_lines(alloc, tables, localiser, requests, out),
+        Command::Walk => write_walks(alloc, tables, requests, out),
         Command::Generate(count) => {
-            write_numbers(alloc, &tables, &localiser, requests, count, out)
+            write_numbers(alloc, tables, localiser, requests, count, out)
         }
     }
 }

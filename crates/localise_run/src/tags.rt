@@ -5,7 +5,7 @@ ghost use Rattle.wanted_locale.specs.Wanted.{IsTagCause, IsWantedOf};
 
 use icu_locale_core::DataLocale;
 use std::alloc::Global;
-use wanted_locale::{TagCause, Tables, wanted};
+use wanted_locale::{Tables, TagCause, wanted};
 
 /// The locale that a tag asks for. Where it is the last tag, whose locale is known, it isn't read
 /// again.

@@ -58,22 +58,6 @@ FailsIn Memory = Unit {0}
 abbrev pub IsFailure : Status → Type 0
 IsFailure status = FailsIn (class_of status)
 
--- an answer that bytes may have that were read: all but those of words and of reading
-abbrev pub IsOfBytes : Status → Type 0
-IsOfBytes Done = Unit {0}
-IsOfBytes BadWords = ⊥
-IsOfBytes NotJson = Unit {0}
-IsOfBytes (Shape place) = Unit {0}
-IsOfBytes (Table cause) = Unit {0}
-IsOfBytes (Bundle i cause) = Unit {0}
-IsOfBytes (DuplicateLocale i) = Unit {0}
-IsOfBytes (Root fault) = Unit {0}
-IsOfBytes (Request i cause) = Unit {0}
-IsOfBytes ReadFault = ⊥
-IsOfBytes WriteFault = Unit {0}
-IsOfBytes NoMemory = Unit {0}
-IsOfBytes TooLong = ⊥
-
 -- an answer that comes once the source was read to its end: all but too long, and those of words, reading and memory
 abbrev pub ComesAtEnd : Status → Type 0
 ComesAtEnd Done = Unit {0}

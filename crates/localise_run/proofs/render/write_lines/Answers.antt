@@ -61,12 +61,11 @@ loop-number-preserved g c =
     let root = root_of c.args.localiser.now in
     let q = c.index-requests-number.result in
     let end = c.loop-number.auto.number-end in
-    let within : c.loop-number.number < length c.args.requests.now = omega (arith, c.loop-number-test.true) in
-    (
+    let within : c.loop-number.number < length c.args.requests.now = omega (arith, c.loop-number-test.true) in (
       λ (bundles : List Meaning) alike.
-      let line = c.in_default-write_request.ensures.ok bundles alike in
-      wrote_more g.O.Sink.took g.O.Sink.faults g.met.O.Sink.took_both g.met.O.Sink.took_faults (IsLine T bundles root) (IsLineFault T bundles root) c.args.requests.now
-      c.args.out.now c.loop-number.out c.write_request.new.out c.loop-number.number q line.line (c.loop-number.invariant.0 bundles alike) within c.index-requests-number.is line.is line.taken,
+          let line = c.in_default-write_request.ensures.ok bundles alike in
+          wrote_more g.O.Sink.took g.O.Sink.faults g.met.O.Sink.took_both g.met.O.Sink.took_faults (IsLine T bundles root) (IsLineFault T bundles root) c.args.requests.now
+          c.args.out.now c.loop-number.out c.write_request.new.out c.loop-number.number q line.line (c.loop-number.invariant.0 bundles alike) within c.index-requests-number.is line.is line.taken,
       c.in-Ok-locale_of.ensures.ok,
       c.as_str-next_tag.utf8,
     )

@@ -55,10 +55,9 @@ loop-number-preserved g c =
     let q = c.index-requests-number.result in
     let end = c.loop-number.auto.number-end in
     let within : c.loop-number.number < length c.args.requests.now = omega (arith, c.loop-number-test.true) in
-    let line = c.in_default-write_walk.ensures.ok in
-    (
+    let line = c.in_default-write_walk.ensures.ok in (
       wrote_more g.O.Sink.took g.O.Sink.faults g.met.O.Sink.took_both g.met.O.Sink.took_faults (IsWalkLine T) (IsWalkFault T) c.args.requests.now
-      c.args.out.now c.loop-number.out c.write_walk.new.out c.loop-number.number q line.line c.loop-number.invariant.0 within c.index-requests-number.is line.is line.taken,
+          c.args.out.now c.loop-number.out c.write_walk.new.out c.loop-number.number q line.line c.loop-number.invariant.0 within c.index-requests-number.is line.is line.taken,
       c.in-Ok-locale_of.ensures.ok,
       c.as_str-next_tag.utf8,
     )

@@ -14,12 +14,11 @@ returns-in-len1-2 c =
     (is_word _ (codes "walk") c.as_str-then-words-lt2.result.now c.eq-then-words-lt2.result c.as_str-then-words-lt2.ensures.value c.eq-then-words-lt2.ensures c.if-eq-2.true)
 
 pub returns-in_ok-number_of-in-len2 : goal.returns-in_ok-number_of-in-len2
-returns-in_ok-number_of-in-len2 c =
-    (
-      c.as_str-in-len2.result.now,
-      c.in_ok-number_of-in-len2.ensures,
-      two_words c.args.words.now c.word-item-then-words-lt3.result c.digits-item.result (codes "generate") c.as_str-in-len2.result.now
+returns-in_ok-number_of-in-len2 c = (
+  c.as_str-in-len2.result.now,
+  c.in_ok-number_of-in-len2.ensures,
+  two_words c.args.words.now c.word-item-then-words-lt3.result c.digits-item.result (codes "generate") c.as_str-in-len2.result.now
       c.in-len2.len_at_least c.in-len2.len_below c.word-item-then-words-lt3.is c.digits-item.is
       (is_word _ (codes "generate") c.as_str-then-words-lt3.result.now c.eq-then-words-lt3.result c.as_str-then-words-lt3.ensures.value c.eq-then-words-lt3.ensures c.if-eq-3.true)
       (sym c.as_str-in-len2.ensures.value),
-    )
+)
