@@ -141,7 +141,7 @@ some_read (Some t) = (t, refl)
 -- and more than are read
 some_long : (most : ℕ) (left : Option (List ℕ)) → IfSome left (λ t. most < length t)
     → (bytes : List ℕ) × AreRead left bytes × (most < length bytes)
-some_long most None h = (replicate (most + 1) 0, tt, omega (arith, length-replicate (most + 1) 0))
+some_long most None h = (replicate (most + 1) 0, tt, omega (arith, length-replicate {A = ℕ} (most + 1) 0))
 some_long most (Some t) h = (t, refl, h)
 
 module _ {O : Type 0} (took : O → List ℕ → O → Type 0) (faults : O → ℕ) (command : Command) (left : Option (List ℕ)) (before now : ℕ) where

@@ -1,6 +1,6 @@
 //! `generate`: requests made from those of a document, and three numbers of their lines.
 
-ghost use Rattle.std.specs.Prelude.{◌≡◌, ◌≢◌, ◌≤◌, ◌<◌, ◌++◌, ◌∷◌, [], true, List, Some, IfErr, IfOk, OnErr, OnOk, length, slice_get, vec_len};
+ghost use Rattle.std.specs.Prelude.{◌≡◌, ◌≢◌, ◌≤◌, ◌++◌, ◌∷◌, [], true, List, Some, IfErr, IfOk, OnErr, OnOk, length, slice_get, vec_len};
 ghost use Rattle.localise.specs.Kept.{AreAlike};
 ghost use Rattle.localise.specs.Meaning.{Meaning};
 ghost use Rattle.localise.specs.Views.{meanings, root_of, tables_of};
@@ -45,8 +45,7 @@ pub(crate) fn write_numbers<O: Sink>(
     count: u32,
     out: &mut O,
 ) -> Status
-    requires tables { tables_of localiser.now ≡ tables.now }
-    requires few { count ≤ 1_000_000 }
+    requires { tables_of localiser.now ≡ tables.now }
     ensures { (bundles : List Meaning) → AreAlike (meanings localiser.now) bundles
         → Gives O.took
         (AreGenerated tables.now bundles (root_of localiser.now) (made requests.old 0 count))
@@ -70,8 +69,7 @@ fn count_lines(
     requests: &mut [Request],
     count: u32,
 ) -> Result<Counted, Status>
-    requires tables { tables_of localiser.now ≡ tables.now }
-    requires few { count ≤ 1_000_000 }
+    requires { tables_of localiser.now ≡ tables.now }
     ensures ok { (bundles : List Meaning) → AreAlike (meanings localiser.now) bundles
         → IfOk result (AreCounted tables.now bundles (root_of localiser.now)
         (made requests.old 0 count)) }
