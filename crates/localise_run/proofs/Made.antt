@@ -1,5 +1,5 @@
 -- Made requests: which stands at a place, the requests that they are made from, and how many locales are visited for them.
-use Rattle.std.proofs.Common.{◌≡◌, ℕ, zero, suc, ◌+◌, ◌<◌, ◌≤◌, ◌%◌, min, List, [], ◌∷◌, ◌++◌, Some, length, take, get_or, set, refl, sym, ap, ◌∙◌, subst, arith, ltb, inl, inr, add-zero, add-suc, zero-add, length-set, get_or-set_same, get_or-set_other}
+use Rattle.std.proofs.Common.{◌≡◌, ℕ, zero, suc, ◌+◌, ◌<◌, ◌≤◌, ◌%◌, min, List, [], ◌∷◌, ◌++◌, Some, length, take, get_or, set, refl, sym, ap, ◌∙◌, subst, arith, ltb, inl, inr, add-zero, zero-add, length-set, get_or-set_same, get_or-set_other}
 use Rattle.std.specs.Prelude.{slice_get}
 use Rattle.std.proofs.Math.Nat.{mod-eq_of_lt, mod-le, mod-lt}
 use Rattle.std.proofs.lemmas.Bool.{cases_eq, cases_lt, cond-true, cond-false, lt-ltb, le-ltb}

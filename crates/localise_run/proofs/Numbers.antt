@@ -1,5 +1,5 @@
 -- What is counted of made requests, and the three lines of it.
-use Rattle.std.proofs.Common.{◌≡◌, ◌≢◌, ℕ, ◌+◌, ◌-◌, ◌^◌, min, max, List, [], Some, length, take, refl, sym, ap, ◌∙◌, subst, inl, inr, arith, zero-add}
+use Rattle.std.proofs.Common.{◌≡◌, ◌≢◌, ℕ, ◌-◌, ◌^◌, min, List, [], Some, length, take, refl, sym, ap, ◌∙◌, subst, inl, inr, arith}
 use Rattle.std.specs.Prelude.{slice_get}
 use Rattle.std.proofs.Math.Seq.{take-length}
 use Rattle.icu_list.specs.Patterns.{Patterns}
@@ -7,13 +7,12 @@ use Rattle.localise.specs.Meaning.{Meaning}
 use Rattle.localise_run.proofs.Written.{WroteTo}
 use Rattle.localise_run.specs.Causes.{status_of_sink, status_of_tag}
 use Rattle.localise_run.specs.Generating.{AreCounted, AreGenerated, AreNumbers, AreUncounted, AreVisited, all, refused, stopped, no_memory}
-use Rattle.localise_run.specs.Rendering.{AreRendered, IsLine, IsLineFault, in_tag}
+use Rattle.localise_run.specs.Rendering.{IsLine, IsLineFault, in_tag}
 use Rattle.localise_run.specs.Requests.{AreLines, up_to}
 use Rattle.localise_run.specs.Requests.{all as all_lines}
 use Rattle.localise_run.specs.Run.{Gives, written}
 use Rattle.localise_run.specs.Wanting.{HasTagCause}
 use Rattle.localise_run.specs.Writing.{FailsLine, GetsNone}
-use Rattle.localise_run.specs.declared.generate.Counted.{Counted}
 use Rattle.localise_status.specs.declared.status.RequestCause.{RequestCause}
 use Rattle.localise_status.specs.declared.status.RequestCause.TheVariants.{Tag}
 use Rattle.localise_status.specs.declared.status.Status.{Status}

@@ -1,7 +1,6 @@
 -- An input has one answer to a command.
-use Rattle.std.proofs.Common.{◌≡◌, ◌≢◌, ℕ, ◌<◌, ◌≤◌, List, [], Option, Some, None, Ok, Err, refl, sym, ap, ap₂, ◌∙◌, subst, length, arith}
+use Rattle.std.proofs.Common.{◌≡◌, ℕ, ◌<◌, ◌≤◌, List, Option, Some, None, Ok, Err, sym, ap, ◌∙◌, subst, length, arith}
 use Rattle.icu_list.specs.Patterns.{Patterns}
-use Rattle.language_tags.specs.Laws as tags
 use Rattle.localise.specs.Bundles.{AreAccepted, IsRefusal}
 use Rattle.localise.specs.Laws as localise
 use Rattle.localise.specs.Meaning.{Meaning}

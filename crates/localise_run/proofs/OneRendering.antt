@@ -1,5 +1,5 @@
 -- What a command makes of requests is one thing, and goes by what tables answer.
-use Rattle.std.proofs.Common.{◌≡◌, ◌≢◌, ℕ, ◌+◌, List, [], ◌∷◌, Option, Some, None, refl, sym, ap, ap₂, ◌∙◌, subst, length}
+use Rattle.std.proofs.Common.{◌≡◌, ℕ, ◌+◌, List, [], ◌∷◌, Some, None, refl, sym, ap, ap₂, ◌∙◌, subst}
 use Rattle.std.specs.Prelude.{encode_utf8_all}
 use Rattle.fallback_chain.specs.Chain.{EndsAt, chain_text}
 use Rattle.icu_list.specs.Patterns.{Patterns}
@@ -11,7 +11,7 @@ use Rattle.localise.specs.Chosen.{Answer, Answers, ComesRound, IsLocalised, Loop
 use Rattle.localise.specs.Laws as localise
 use Rattle.localise.specs.Meaning.{Meaning}
 use Rattle.localise_run.proofs.Lines.{answered_along, lines_along, one_answered, one_lines}
-use Rattle.localise_run.specs.Generating.{AreCounted, AreGenerated, AreNumbers, AreVisited, Visits, all, at_most_64_bits, refused, three_lines}
+use Rattle.localise_run.specs.Generating.{AreGenerated, AreNumbers, AreVisited, Visits, all, at_most_64_bits, refused, three_lines}
 use Rattle.localise_run.specs.Rendering.{AreRendered, IsLine, IsLineFault, in_tag, in_walk}
 use Rattle.localise_run.specs.Requests.{line_of}
 use Rattle.localise_run.specs.Requests as requests

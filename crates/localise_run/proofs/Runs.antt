@@ -1,5 +1,5 @@
 -- What a run gives, from its document's tables up to the bytes and the words.
-use Rattle.std.proofs.Common.{◌≡◌, ◌≢◌, ◌⊎◌, ◌↔◌, ℕ, ◌+◌, ◌≤◌, ◌<◌, List, [], ◌∷◌, ◌++◌, Option, Some, None, Ok, Err, Result, Bool, true, length, map, codes, String, Global, string_bytes, refl, sym, ap, ◌∙◌, subst, inl, inr, arith}
+use Rattle.std.proofs.Common.{◌≡◌, ◌≢◌, ◌⊎◌, ℕ, ◌+◌, ◌≤◌, ◌<◌, List, [], ◌++◌, Option, Some, None, Ok, Err, Result, Bool, length, String, Global, refl, sym, subst, inl, inr, arith}
 use Rattle.std.specs.Prelude.{IfSome, OnErr, OnOk, replicate}
 use Rattle.std.proofs.lemmas.List.{length-replicate}
 use Rattle.icu_list.specs.Patterns.{Patterns}
@@ -14,7 +14,7 @@ use Rattle.localise_document.specs.declared.error.DocumentError.TheVariants as d
 use Rattle.localise_run.proofs.Written.{gives_along}
 use Rattle.localise_run.specs.Answers.{Begins, IsAnswer, IsBegun, IsMade, IsRefusedBy, Says, SaysFirst, document, in_bundles, in_requests, in_tables, misshapen, not_json, status_of, too_long}
 use Rattle.localise_run.specs.Causes.{status_of_document, status_of_reading, status_of_sink}
-use Rattle.localise_run.specs.Commands.{AreNoCommand, AreWords, IsCommand}
+use Rattle.localise_run.specs.Commands.{IsCommand}
 use Rattle.localise_run.specs.Laws.{OneAnswer}
 use Rattle.localise_run.specs.Run.{AreRead, Appended, Gives, GivesRead, IsFlushed, Runs, Written, failed, flushed, no_memory, written}
 use Rattle.localise_run.specs.Tables.{HasTables, IsTableStatus, faulty}

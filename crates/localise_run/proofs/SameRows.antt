@@ -1,5 +1,5 @@
 -- Rows with the same lists make the same tables, and have the same faults.
-use Rattle.std.proofs.Common.{◌≡◌, ℕ, List, [], ap, subst}
+use Rattle.std.proofs.Common.{◌≡◌, [], ap, subst}
 use Rattle.std.specs.List.{slice_index_or}
 use Rattle.icu_locale_fallback.specs.Faults as fallback
 use Rattle.icu_locale_fallback.specs.Rows as cells
@@ -15,7 +15,6 @@ use Rattle.language_tags_registry.specs.declared.kind.RegistryTable.{RegistryTab
 use Rattle.language_tags_registry.specs.declared.kind.RegistryTable.TheVariants.{Languages, LanguagesPreferred, LanguagesSuppressScript, Extlangs, ExtlangsPreferred, Scripts, ScriptsPreferred, Regions, RegionsPreferred, Variants, VariantsPreferred, GrandfatheredsPreferred, RedundantsPreferred}
 use Rattle.language_tags_registry.specs.declared.rows.RegistryRows.{RegistryRows}
 use Rattle.localise_document.specs.Contents.{registry_lists, fallback_lists}
-use Rattle.writeable_core.specs.declared.text.TextRow.{TextRow}
 
 -- ---- the registry
 

@@ -1,5 +1,5 @@
 -- A line more is counted, or the request at which counting stops.
-use Rattle.std.proofs.Common.{◌≡◌, ℕ, zero, suc, ◌+◌, ◌<◌, ◌%◌, List, length, take, get_or, Bool, true, false, eqb, Ok, Err, Result, refl, sym, ap, ◌∙◌, subst, arith}
+use Rattle.std.proofs.Common.{◌≡◌, ℕ, zero, suc, ◌+◌, ◌<◌, ◌%◌, List, length, take, get_or, Bool, true, false, eqb, Ok, Err, Result, sym, ap, ◌∙◌, subst, arith}
 use Rattle.std.specs.Prelude.{OnOk, is_err}
 use Rattle.localise.specs.Meaning.{Meaning}
 use Rattle.localise.specs.Views.{root_of}
@@ -12,7 +12,6 @@ use Rattle.localise_run.specs.Run.{written}
 use Rattle.localise_run.specs.Wanting.{HasTagCause, Wants}
 use Rattle.localise_run.specs.Writing.{FailsLine}
 use Rattle.localise_status.specs.declared.status.RequestCause.TheVariants.{Tag}
-use Rattle.localise_status.specs.declared.status.Status.{Status}
 use Rattle.localise_texts.specs.declared.request.Request.{Request}
 use Rattle.writeable_sinks.specs.CountSink.{Counts}
 use Rattle.writeable_sinks.specs.CountSinkLaws.{Counts-both}

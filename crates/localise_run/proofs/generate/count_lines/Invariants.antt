@@ -1,5 +1,5 @@
 -- The lines so far are counted, and the locales of their requests are known.
-use Rattle.std.proofs.Common.{◌≡◌, ℕ, ◌*◌, ◌^◌, ◌≤◌, List, take}
+use Rattle.std.proofs.Common.{◌*◌, ◌^◌, ◌≤◌, List, take}
 use Rattle.localise.specs.Kept.{AreAlike}
 use Rattle.localise.specs.Meaning.{Meaning}
 use Rattle.localise.specs.Views.{meanings, root_of}

@@ -1,6 +1,5 @@
 -- A word, a number and a line feed, or a front of them.
 use Rattle.std.proofs.Common.{◌++◌, ◌∷◌, [], List, ℕ, subst}
-use Rattle.std.specs.Str.{chars}
 use Rattle.writeable_core.specs.Sink.{TookPrefix}
 use Rattle.writeable_core.specs.SinkLaws.{on_err}
 use Rattle.localise_run.proofs.Ascii.{plain}

@@ -1,7 +1,6 @@
 -- The numbers are written, or there are none.
-use Rattle.std.proofs.Common.{List, refl, sym, ap, subst}
+use Rattle.std.proofs.Common.{refl, sym, ap, subst}
 use Rattle.std.specs.Prelude.{Err}
-use Rattle.localise.specs.Meaning.{Meaning}
 use Rattle.localise.specs.Views.{root_of}
 use Rattle.localise_run.proofs.Numbers.{no_numbers, numbers_failing, wrote_numbers}
 use Rattle.localise_run.specs.Generating.{AreGenerated, AreNumbers, made, three_lines}

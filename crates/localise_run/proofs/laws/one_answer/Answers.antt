@@ -1,4 +1,4 @@
-use Rattle.localise_run.proofs.OneAnswer.{DocumentLaws, says_one}
+use Rattle.localise_run.proofs.OneAnswer.{says_one}
 use Rattle.localise_run.proofs.OneTables.{fallback_one, fault_one, registry_alike, tables_no_fault}
 use Rattle.localise_run.proofs.laws.one_answer.Goals as goal
 

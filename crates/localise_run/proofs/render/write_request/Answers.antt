@@ -1,17 +1,14 @@
 -- The line is the localised text and a line feed; or the walk comes round.
-use Rattle.std.proofs.Common.{ℕ, ◌≤◌, ◌^◌, List, refl, sym, ap, subst}
+use Rattle.std.proofs.Common.{ℕ, ◌≤◌, ◌^◌, refl, sym, ap, subst}
 use Rattle.std.specs.Prelude.{Err}
 use Rattle.localise.specs.Given.{text_given}
-use Rattle.localise.specs.Meaning.{Meaning}
 use Rattle.localise.specs.Views.{root_of, tables_of}
 use Rattle.localise_run.proofs.FoundLines.{found_line, found_visits, round_fault}
-use Rattle.wanted_locale.specs.declared.tables.Tables.{Tables}
 use Rattle.localise_run.proofs.Written.{sink_fails}
 use Rattle.localise_run.specs.Rendering.{IsLine, IsLineFault}
 use Rattle.localise_run.specs.Requests.{line_of}
 use Rattle.localise_run.specs.Run.{written}
 use Rattle.localise_run.specs.Writing.{FailsLine}
-use Rattle.localise_status.specs.declared.status.Status.{Status}
 use Rattle.localise_run.proofs.render.write_request.Goals as goal
 
 pub returns-in_default-clause-err : goal.returns-in_default-clause-err

@@ -1,6 +1,5 @@
 -- The command that it is makes of the requests what it makes.
-use Rattle.std.proofs.Common.{List, sym, subst}
-use Rattle.localise.specs.Meaning.{Meaning}
+use Rattle.std.proofs.Common.{sym, subst}
 use Rattle.localise.specs.Views.{root_of}
 use Rattle.localise_run.specs.Answers.{Begins, IsMade}
 use Rattle.localise_run.specs.Run.{Gives, written}

@@ -1,5 +1,4 @@
-use Rattle.std.proofs.Common.{codes, refl, sym, subst, List, ℕ}
-use Rattle.localise_run.specs.Commands.{IsNumber}
+use Rattle.std.proofs.Common.{codes, sym}
 use Rattle.localise_run.proofs.Words.{is_word, one_word, two_words}
 use Rattle.localise_run.proofs.command.Command.of_words.Goals as goal
 
