@@ -9,7 +9,7 @@ from pathlib import Path
 from localisation.faults import Fault
 from localisation.folder import Wanted
 from localisation.lists import Patterns
-from localisation.mo import catalog_of, merged
+from localisation.mo import catalog_of, disagreeing, merged, two_rules
 from localisation.output import Progress
 from localisation.program import BUNDLE
 from localisation.refused import Refused
@@ -36,26 +36,38 @@ class Bundle:
         return ", ".join(str(path) for path in self.paths)
 
 
-def bundles_of(wanted: Sequence[Wanted], patterns_of: PatternsOf) -> list[Bundle]:
+def bundles_of(
+    wanted: Sequence[Wanted], patterns_of: PatternsOf, skipped: Callable[[str], None] | None = None
+) -> list[Bundle]:
     """A bundle for each locale that has a catalog.
 
     One file goes in as it is, byte for byte. Several are merged, the files of the first domain
-    before those of the next.
+    before those of the next. Files whose plural rules differ are a fault that names all of them,
+    or the later is left out and told of.
     """
     progress = Progress("bundles made", len(wanted))
-    bundles = list[Bundle]()
+    bundles, differ = list[Bundle](), list[str]()
     for each in wanted:
         if each.paths:
-            bundles.append(Bundle(each.tag, catalog(each.paths), patterns_of(each.tag), each.paths))
+            mo = _catalog(each.paths, skipped or differ.append)
+            bundles.append(Bundle(each.tag, mo, patterns_of(each.tag), each.paths))
         progress.step()
     progress.end()
+    if differ:
+        raise Fault("; ".join(differ))
     return bundles
 
 
-def catalog(paths: Sequence[Path]) -> bytes:
+def _catalog(paths: Sequence[Path], differ: Callable[[str], None]) -> bytes:
     """The bytes of one file, or of several made one."""
     read = [(str(path), path.read_bytes()) for path in paths]
-    return read[0][1] if len(read) == 1 else merged([catalog_of(*each) for each in read])
+    if len(read) == 1:
+        return read[0][1]
+    catalogs = [catalog_of(*each) for each in read]
+    for first, second in list(disagreeing(catalogs)):
+        differ(two_rules(first, second))
+        catalogs.remove(second)
+    return merged(catalogs)
 
 
 def without(wanted: Sequence[Wanted], refused: Sequence[Refused]) -> list[Wanted]:

@@ -7,6 +7,7 @@ and by this job where the scheduler gives up on it.
 
 from __future__ import annotations
 
+import asyncio
 import logging
 import warnings
 from collections import deque
@@ -22,10 +23,15 @@ from localisation.faults import Fault
 
 # How often a shard may lose its worker before the job gives up.
 TRIES = 10
+# What a future raises where the scheduler gave its task up, or forgot it.
+LOST = ("KilledWorker", "CancelledError", "FutureCancelledError")
 NO_DASK = "no Dask here: apt-get install python3-distributed, and run by /usr/bin/python3"
 
+Submit = Callable[[bytes], Any]
+Lines = Callable[[], bytes]
 
-@dataclass
+
+@dataclass(frozen=True)
 class Job:
     """A connection to a scheduler, and what all shards need, which each worker gets once."""
 
@@ -33,24 +39,29 @@ class Job:
     program: Any
     head: Any
 
-    def rendered(self, shard: Shard, lines: bytes) -> Any:
+    def rendered(self, lines: bytes) -> Any:
         return self._submit(worker.rendered, self.program, self.head, lines)
 
-    def looked_at(self, shard: Shard, lines: bytes) -> Any:
+    def looked_at(self, lines: bytes) -> Any:
         return self._submit(worker.looked_at, self.program, lines)
 
     def of_head(self) -> worker.RESULT:
         """What the program says of the tables and bundles alone."""
-        return self.result(self._submit(worker.rendered, self.program, self.head, b""))
+        return self.settled(self.rendered, bytes, self.rendered(b""))
 
     def _submit(self, call: Callable, *given: Any) -> Any:
-        return self.client.submit(call, *given, pure=False, retries=TRIES)
+        return self.client.submit(call, *given, pure=False, retries=2)
 
-    def result(self, future: Any) -> worker.RESULT:
-        try:
-            return future.result()
-        except Exception as error:
-            raise Fault(f"a task failed: {type(error).__name__}: {error}") from None
+    def settled(self, submit: Submit, lines: Lines, future: Any) -> worker.RESULT:
+        """A task's answer. A task that is lost with its workers is submitted again."""
+        for _ in range(TRIES):
+            try:
+                return future.result()
+            except Exception as error:
+                if type(error).__name__ not in LOST:
+                    raise Fault(f"a task failed: {type(error).__name__}: {error}") from None
+            future = submit(lines())
+        raise Fault(f"a task was lost {TRIES} times with its worker")
 
     def width(self) -> int:
         """How many shards are out at once."""
@@ -93,32 +104,38 @@ def _client(distributed: Any, workers: int, scheduler: str | None) -> Iterator[A
             yield client
         return
     try:
-        client = distributed.Client(scheduler, timeout="15s", set_as_default=False)
+        asyncio.run(_reach(distributed, scheduler))
     except (OSError, ValueError) as error:
         raise Fault(f"scheduler {scheduler}: {error}") from None
-    with client:
+    with distributed.Client(scheduler, set_as_default=False) as client:
         if not client.nthreads():
             raise Fault(f"scheduler {scheduler}: it has no worker")
         yield client
 
 
+async def _reach(distributed: Any, scheduler: str) -> None:
+    """Connects once: a client that finds no scheduler tells of it in many lines."""
+    link = await distributed.comm.connect(scheduler, timeout=10)
+    await link.close()
+
+
 def in_order(
-    the_job: Job,
-    submit: Callable[[Shard, bytes], Any],
-    shards: Iterable[Shard],
-    requests: BinaryIO,
+    the_job: Job, submit: Submit, shards: Iterable[Shard], requests: BinaryIO
 ) -> Iterator[tuple[Shard, worker.RESULT]]:
     """The shards in their order, each with its answer."""
     out: deque[tuple[Shard, Any]] = deque()
     width = the_job.width()
+
+    def first() -> tuple[Shard, worker.RESULT]:
+        shard, future = out.popleft()
+        return shard, the_job.settled(submit, lambda: lines_of(requests, shard), future)
+
     for shard in shards:
-        out.append((shard, submit(shard, lines_of(requests, shard))))
+        out.append((shard, submit(lines_of(requests, shard))))
         if len(out) >= width:
-            first, future = out.popleft()
-            yield first, the_job.result(future)
+            yield first()
     while out:
-        first, future = out.popleft()
-        yield first, the_job.result(future)
+        yield first()
 
 
 def lines_of(requests: BinaryIO, shard: Shard) -> bytes:

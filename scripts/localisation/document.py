@@ -70,7 +70,8 @@ def head_of(sources: Sources, program: Program | None) -> Head:
         wanted = wanted_of(sources)
         if program:
             wanted = _sound(sources, program, wanted)
-        head.bundles = bundles.bundles_of(wanted, patterns_of)
+        skipped = _told_skipped if sources.skip_faulty else None
+        head.bundles = bundles.bundles_of(wanted, patterns_of, skipped)
     if program:
         _accept(head, program, sources.skip_faulty)
     return head
@@ -87,6 +88,10 @@ def tables_of(sources: Sources) -> tuple[Head, bundles.PatternsOf]:
     lists = Lists(cldr.common(sources.cldr), supplemental, sources.kind, sources.length)
     head.fallback, head.root = supplemental.tables(), lists.root()
     return head, lists.of_tag
+
+
+def _told_skipped(text: str) -> None:
+    note(NAME, f"{text}; the second left out")
 
 
 def _no_patterns(_tag: str) -> None:

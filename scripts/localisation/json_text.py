@@ -12,7 +12,8 @@ from localisation.program import LIMIT
 
 PIECE = 1 << 20
 SPACE = " \t\n\r"
-DECODER = json.JSONDecoder()
+# Behind a number these, or the end of what was read, may still belong to it.
+GOES_ON = ("", *"0123456789.eE+-")
 
 
 @dataclass
@@ -55,9 +56,11 @@ class JsonText:
                 if len(self.text) - self.at > LIMIT or not self._more():
                     raise self.fault(getattr(error, "msg", "nested too deep")) from None
                 continue
-            if end < len(self.text) or not self._more():
-                text, self.at = self.text[self.at:end], end
-                return text
+            # A number that a piece cuts in two reads as a shorter one.
+            if self.text[end:end + 1] in GOES_ON and self._more():
+                continue
+            text, self.at = self.text[self.at:end], end
+            return text
 
     def items(self) -> Iterator[str]:
         """The texts of a list's items."""

@@ -7,7 +7,7 @@ whether a file is sound is asked of the program (`refused.py`).
 from __future__ import annotations
 
 import struct
-from collections.abc import Iterable
+from collections.abc import Iterable, Iterator
 from dataclasses import dataclass
 
 from localisation.faults import Fault
@@ -16,8 +16,12 @@ from localisation.plural import DEFAULT, Rule, rule_of, same
 LITTLE, BIG = b"\xde\x12\x04\x95", b"\x95\x04\x12\xde"
 CONTEXT_END = "\x04"
 UTF_8 = ("utf-8", "utf8", "unicode-1-1-utf-8")
-# Every byte has a meaning in windows-1252 as browsers read it; Python's table leaves five out.
-UNASSIGNED = {byte: chr(byte) for byte in (0x81, 0x8D, 0x8F, 0x90, 0x9D)}
+# What windows-1252 has where ISO 8859-1 has controls. Five bytes stay controls, as in browsers.
+WINDOWS_1252 = {
+    byte: bytes([byte]).decode("cp1252")
+    for byte in range(0x80, 0xA0)
+    if byte not in (0x81, 0x8D, 0x8F, 0x90, 0x9D)
+}
 
 
 @dataclass(frozen=True)
@@ -39,6 +43,7 @@ class Catalog:
     """What a file says: the fields of its header, its rule of plurals, its messages."""
 
     name: str
+    charset: str
     header: tuple[tuple[str, str], ...]
     rule: Rule | None
     messages: tuple[Message, ...]
@@ -94,7 +99,7 @@ def catalog_of(name: str, data: bytes) -> Catalog:
         )
         messages[message.key] = message
     rule = rule_of(dict(header).get("Plural-Forms", ""))
-    return Catalog(name, header, rule, tuple(messages.values()))
+    return Catalog(name, charset, header, rule, tuple(messages.values()))
 
 
 def _fields(text: str) -> tuple[tuple[str, str], ...]:
@@ -110,7 +115,7 @@ def _charset(fields: dict[str, str]) -> str | None:
 def decoded(name: str, data: bytes, charset: str) -> str:
     """A text in UTF-8, or by the one other encoding that the program knows, windows-1252."""
     if charset not in UTF_8:
-        return "".join(UNASSIGNED.get(b) or bytes([b]).decode("cp1252") for b in data)
+        return data.decode("latin-1").translate(WINDOWS_1252)
     try:
         return data.decode()
     except UnicodeDecodeError:
@@ -144,15 +149,8 @@ def layout(rows: Iterable[tuple[bytes, bytes]]) -> bytes:
 
 
 def merged(catalogs: list[Catalog]) -> bytes:
-    """One file with the messages of all; the later yield to the earlier.
-
-    Two rules that differ are a fault. A catalog without a rule whose messages have no plural is
-    content with any; where such messages have one, its rule is the program's default.
-    """
-    ruled = [c for c in catalogs if c.rule or c.has_plurals]
-    for other in ruled[1:]:
-        _agree(ruled[0], other)
-    rule = next((c.rule for c in ruled if c.rule), None)
+    """One file with the messages of all; the later yield to the earlier."""
+    rule = next((c.rule for c in catalogs if c.rule), None)
     header = dict(next((c.header for c in catalogs if c.header), ()))
     if rule:
         header["Plural-Forms"] = rule.text
@@ -163,9 +161,19 @@ def merged(catalogs: list[Catalog]) -> bytes:
     return file_of(header.items(), messages.values())
 
 
-def _agree(first: Catalog, second: Catalog) -> None:
-    if not same(first.forms_by, second.forms_by):
-        raise Fault(
-            f"two plural rules: {first.name} has {first.forms_by.text!r}, "
-            f"{second.name} has {second.forms_by.text!r}"
-        )
+def disagreeing(catalogs: list[Catalog]) -> Iterator[tuple[Catalog, Catalog]]:
+    """The first catalog that has a rule, with each whose rule gives other forms.
+
+    A catalog without a rule whose messages have no plural is content with any; where they have
+    one, its rule is the program's default.
+    """
+    ruled = [catalog for catalog in catalogs if catalog.rule or catalog.has_plurals]
+    for other in ruled[1:]:
+        if not same(ruled[0].forms_by, other.forms_by):
+            yield ruled[0], other
+
+
+def two_rules(first: Catalog, second: Catalog) -> str:
+    """What is said of two catalogs that can't be one."""
+    told = [f"{each.name} has {each.forms_by.text!r}" for each in (first, second)]
+    return "two plural rules: " + ", ".join(told)

@@ -1,8 +1,8 @@
 """Plural expressions: reading them, their value at a count, and when two rules are one.
 
 Catalogs of one language write one rule in many ways. Merging them asks whether two expressions
-have the same value at every count; that is decided, not sampled, as long as the count itself is
-only compared with numbers or divided for a remainder, as in every rule of a living language.
+have the same value at every count. That is decided, not sampled, where the count itself is only
+compared with numbers or divided for a remainder; other rules are one only if their trees are.
 """
 
 from __future__ import annotations
@@ -18,7 +18,7 @@ LEVELS = (("||",), ("&&",), ("==", "!="), ("<", "<=", ">", ">="), ("+", "-"), ("
 COMPARISONS = (*LEVELS[2], *LEVELS[3])
 WORD = 1 << 64
 # Two rules whose remainders repeat after more counts than this aren't compared.
-MOST_COUNTS = 1_000_000
+MOST_COUNTS = 100_000
 
 N = ("n",)
 Tree = tuple

@@ -40,6 +40,8 @@ def tables_of(path: Path) -> Tables:
     tables: Tables = {name: [] for name in TABLES}
     seen = set[tuple[str, str]]()
     for number, record in _records(path):
+        if not record:
+            continue
         kind = record.get("Type", [""])[0]
         if kind not in SHAPES and kind not in TAG_KINDS:
             if "File-Date" in record:
