@@ -6,6 +6,7 @@ LOCALISE_REGISTRY, or where Debian puts them; a registry Debian doesn't have as 
 
 import json
 import os
+import sys
 import unittest
 from pathlib import Path
 
@@ -31,7 +32,7 @@ class Real(InFolder):
     @needs_catalogs
     def test_lines_are_those_of_pythons_gettext(self) -> None:
         result = compared(Program(PROGRAM), PATHS)
-        print(f"\n{dict(result.files)}\n{dict(result.lines)}")
+        print(f"\n{dict(result.files)}\n{dict(result.lines)}", file=sys.stderr)
         self.assertEqual(result.lines[OTHER], 0, "\n".join(result.others))
         self.assertGreater(sum(result.lines.values()), 0)
 
