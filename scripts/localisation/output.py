@@ -54,11 +54,11 @@ class Progress:
     done: int = 0
     shown: float = field(default_factory=time.monotonic)
     written: bool = False
+    seen: bool = field(default_factory=lambda: sys.stderr.isatty())
 
     def step(self, count: int = 1) -> None:
         self.done += count
-        now = time.monotonic()
-        if sys.stderr.isatty() and now - self.shown > 0.2:
+        if self.seen and (now := time.monotonic()) - self.shown > 0.2:
             of = "" if self.total is None else f" of {self.total:,}"
             print(f"\r{self.what}: {self.done:,}{of}\x1b[K", end="", file=sys.stderr, flush=True)
             self.shown, self.written = now, True

@@ -26,7 +26,7 @@ FAULTS = {
     "%%\nType: dialect\nSubtag: en\n": "line 2: a record of no known type",
     "%%\nType: language\n": "line 2: a record of one language is wanted",
     "%%\nType: region\nSubtag: QZ..QM\n": "line 2: no range",
-    "%%\nType: region\nSubtag: AA\n%%\nType: region\nSubtag: AA\n": "line 5: region AA stands twice",
+    "%%\nType: region\nSubtag: AA\n%%\nType: region\nSubtag: AA\n": "line 5: region AA stands",
 }
 
 

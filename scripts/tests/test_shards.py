@@ -7,7 +7,9 @@ import subprocess
 import time
 from pathlib import Path
 
-from tests.support import PROGRAM, SCRIPTS, STAND_IN, InFolder, needs_dask, needs_program, run
+from tests.support import (
+    DASK_PYTHON, PROGRAM, SCRIPTS, STAND_IN, InFolder, needs_dask, needs_program, run,
+)
 
 
 def document(count: int, **changed: dict) -> dict:
@@ -80,6 +82,37 @@ class Shards(InFolder):
         asked = self.write("asked", "\n".join(json.dumps(r) for r in document(5)["requests"]))
         done = self.shards(document(3), "--requests", asked)
         self.assertEqual((done.returncode, done.stdout), (0, lines(3) + lines(5)))
+
+
+@needs_dask
+class OfAScheduler(InFolder):
+    """A scheduler and a worker that run already, and know nothing of this repository."""
+
+    def start(self, name: str, *words: object) -> None:
+        started = subprocess.Popen(
+            [DASK_PYTHON, "-m", f"distributed.cli.dask_{name}", *map(str, words)],
+            cwd=self.folder, env={"PATH": os.environ["PATH"]},
+            stdout=subprocess.DEVNULL, stderr=subprocess.DEVNULL,
+        )
+        self.addCleanup(started.wait)
+        self.addCleanup(started.terminate)
+
+    def test_lines(self) -> None:
+        place = self.folder / "place"
+        self.start("scheduler", "--host", "127.0.0.1", "--port", 0, "--no-dashboard",
+                   "--scheduler-file", place)
+        self.assertTrue(wait_for(lambda: place.is_file() and place.stat().st_size > 0))
+        self.start("worker", "--scheduler-file", place, "--no-dashboard", "--nthreads", 1)
+        address = json.loads(place.read_text())["address"]
+        given = self.write("given.json", json.dumps(document(100)))
+        words = ["shards", given, "--program", STAND_IN, "--scheduler", address, "--size", 9]
+        done = run(*words)
+        for _ in range(20):  # until the worker has come
+            if b"no worker" not in done.stderr:
+                break
+            time.sleep(1)
+            done = run(*words)
+        self.assertEqual((done.returncode, done.stderr, done.stdout), (0, b"", lines(100)))
 
 
 @needs_dask
