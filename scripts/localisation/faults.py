@@ -57,5 +57,6 @@ def ended(name: str, job: Callable[[], int]) -> int:
         line, status = f"{name}: {place}: {error.strerror or error}", OWN_STATUS
     except KeyboardInterrupt:
         line, status = f"{name}: interrupted", INTERRUPTED
-    print(line, file=sys.stderr)
+    # Progress may stand in the line where a terminal's cursor is.
+    print("\r\x1b[K" * sys.stderr.isatty() + line, file=sys.stderr)
     return status

@@ -22,11 +22,16 @@ def kept(value: bytes) -> bytes:
 
 
 def installed(program: bytes) -> str:
-    """The path of the program on this machine, where it is put the first time."""
-    name = f"localise-{hashlib.sha256(program).hexdigest()[:16]}-{os.getuid()}"
-    path = os.path.join(tempfile.gettempdir(), name)
-    if not os.access(path, os.X_OK):
-        handle, new = tempfile.mkstemp(prefix=name)
+    """The path of the program in the worker's own folder, where it is put the first time.
+
+    The folder goes with the worker. One that others may write to would let them replace the file.
+    """
+    from distributed import get_worker
+
+    folder = get_worker().local_directory
+    path = os.path.join(folder, f"localise-{hashlib.sha256(program).hexdigest()}")
+    if not os.path.exists(path):
+        handle, new = tempfile.mkstemp(dir=folder)
         with os.fdopen(handle, "wb") as file:
             file.write(program)
         os.chmod(new, 0o700)
