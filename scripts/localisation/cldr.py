@@ -80,8 +80,8 @@ class Supplemental:
     def _normal_parents(self) -> dict[str, str]:
         rows: dict[str, str] = {}
         for names in self.parents.items():
-            locales = [locale_of(name) for name in names]
-            if None in locales:
+            locales = [locale for name in names if (locale := locale_of(name))]
+            if len(locales) < 2:
                 continue
             child, parent = (self.likely.normal(locale).name("-") for locale in locales)
             if rows.setdefault(child, parent) != parent:

@@ -15,7 +15,7 @@ from pathlib import Path
 
 from localisation.document import compact
 from localisation.faults import Fault
-from localisation.mo import UTF_8, WINDOWS_1252, Catalog, catalog_of
+from localisation.mo import UTF_8, WINDOWS_1252, Catalog, Message, catalog_of
 from localisation.output import Progress
 from localisation.program import DONE, LIMIT, Program
 from localisation.refused import refused_of, unexpected
@@ -110,25 +110,31 @@ def _questions(catalog: Catalog, python: gettext.GNUTranslations) -> Iterator[Qu
     rule = catalog.forms_by
     first = next((n for n in range(1000) if rule.form(n) == 0), 0)
     for message in catalog.messages:
-        # Python can't be asked by a key that it read by another encoding.
-        id, context = (text and _as_python(text, catalog) for text in (message.id, message.context))
         for count in COUNTS if message.plural is not None else {first, *MORE_COUNTS}:
-            if message.plural is None:
-                said = python.gettext(id) if context is None else python.pgettext(context, id)
-            elif context is None:
-                said = python.ngettext(id, OWN, count)
-            else:
-                said = python.npgettext(context, id, OWN, count)
-            request = {"tag": "", "singular": message.id, "plural": OWN, "count": count}
+            request: dict[str, object] = {"tag": "", "singular": message.id, "plural": OWN}
+            request["count"] = count
             if message.context is not None:
                 request["context"] = message.context
+            said = _said(python, message, count, _is_latin(catalog))
             own = message.id if count == 1 else OWN
-            yield Question(request, _right(catalog, python, len(message.forms), count, said, own))
+            right = _right(catalog, _python_form(python, count), len(message.forms), said, own)
+            yield Question(request, right)
 
 
-def _as_python(text: str, catalog: Catalog) -> str:
-    """A text as Python's ISO 8859-1 has it, where the program reads windows-1252."""
-    return text.translate(_CONTROLS) if _is_latin(catalog) else text
+def _python_form(python: gettext.GNUTranslations, count: int) -> int:
+    """The number of the form for a count, by Python's reading of the rule."""
+    return int(python.plural(count))  # type: ignore[attr-defined]
+
+
+def _said(python: gettext.GNUTranslations, message: Message, count: int, latin: bool) -> str:
+    """Python's text. It read the words of a key by ISO 8859-1 where the program didn't."""
+    texts = (message.context or "", message.id)
+    context, words = (text.translate(_CONTROLS) if latin else text for text in texts)
+    if message.plural is None:
+        return python.gettext(words) if message.context is None else python.pgettext(context, words)
+    if message.context is None:
+        return python.ngettext(words, OWN, count)
+    return python.npgettext(context, words, OWN, count)
 
 
 _CONTROLS = {ord(character): byte for byte, character in WINDOWS_1252.items()}
@@ -138,11 +144,8 @@ def _is_latin(catalog: Catalog) -> bool:
     return catalog.charset not in UTF_8
 
 
-def _right(
-    catalog: Catalog, python: gettext.GNUTranslations, forms: int, count: int, said: str, own: str
-) -> dict[str, str]:
+def _right(catalog: Catalog, number: int, forms: int, said: str, own: str) -> dict[str, str]:
     """The lines that are right, each with the name of its difference."""
-    number = python.plural(count)
     right = {said: EQUAL}
     if _is_latin(catalog):
         right.setdefault(said.translate(WINDOWS_1252), WINDOWS)

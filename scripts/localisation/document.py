@@ -67,7 +67,7 @@ def head_of(sources: Sources, program: Program | None) -> Head:
     """The tables and bundles; the program has looked at each, if one is given."""
     head, patterns_of = tables_of(sources)
     if sources.catalogs:
-        wanted = wanted_of(sources)
+        wanted = wanted_of(sources.catalogs, sources.domains, sources.locales)
         if program:
             wanted = _sound(sources, program, wanted)
         skipped = _told_skipped if sources.skip_faulty else None
@@ -98,17 +98,19 @@ def _no_patterns(_tag: str) -> None:
     return None
 
 
-def wanted_of(sources: Sources) -> list[folder.Wanted]:
-    """The bundles that are asked for, by their locales' names."""
-    there = folder.names_in(sources.catalogs, sources.domains)
-    if sources.locales is None:
-        return folder.wanted(sources.catalogs, sources.domains, _with_tag(there))
-    wanted = folder.wanted(sources.catalogs, sources.domains, dict.fromkeys(sources.locales))
+def wanted_of(
+    catalogs: Path, domains: Sequence[str], locales: Sequence[str] | None
+) -> list[folder.Wanted]:
+    """The bundles that are asked for, by their locales' names; all that are there without."""
+    there = folder.names_in(catalogs, domains)
+    if locales is None:
+        return folder.wanted(catalogs, domains, _with_tag(there))
+    wanted = folder.wanted(catalogs, domains, dict.fromkeys(locales))
     for each in wanted:
         if not each.paths:
-            note(NAME, f"{', '.join(each.names)}: no catalog in {sources.catalogs}; no bundle")
+            note(NAME, f"{', '.join(each.names)}: no catalog in {catalogs}; no bundle")
     if not any(each.paths for each in wanted):
-        raise Fault(f"{sources.catalogs}: no catalog of any locale that is named")
+        raise Fault(f"{catalogs}: no catalog of any locale that is named")
     return wanted
 
 

@@ -12,7 +12,7 @@ from localisation.faults import Fault
 from localisation.program import LIMIT
 
 PIECE = 1 << 20
-SPACES = re.compile(r"[ \t\n\r]*")
+NO_SPACE = re.compile(r"[^ \t\n\r]")
 COMMA = re.compile(r"[ \t\n\r]*,[ \t\n\r]*")
 # Behind a number these, or the end of what was read, may still belong to it.
 GOES_ON = ("", *"0123456789.eE+-")
@@ -36,9 +36,10 @@ class JsonText:
     def next(self) -> str:
         """The next character that isn't space, which stays; empty at the end."""
         while True:
-            self.at = SPACES.match(self.text, self.at).end()
-            if self.at < len(self.text):
-                return self.text[self.at]
+            if found := NO_SPACE.search(self.text, self.at):
+                self.at = found.start()
+                return found[0]
+            self.at = len(self.text)
             if not self._more():
                 return ""
 
@@ -80,12 +81,12 @@ class JsonText:
 
     def _held_items(self) -> Iterator[str]:
         """The items that stand in what is held with their commas: nearly all, and quickly."""
-        scan, text = self.scanner.scan_once, self.text
+        decode, text = self.scanner.raw_decode, self.text
         while True:
             start = self.at
             try:
-                _, end = scan(text, start)
-            except (StopIteration, ValueError, RecursionError):
+                _, end = decode(text, start)
+            except (ValueError, RecursionError):
                 return
             comma = COMMA.match(text, end)
             if comma is None:

@@ -123,7 +123,7 @@ def _patterns_in(path: Path) -> FileOfPatterns:
         alias = pattern.find("alias")
         if alias is not None and (match := ALIAS.fullmatch(alias.get("path", ""))):
             file.aliases[kind] = match[1] or "standard"
-        texts = {part.get("type"): part.text or "" for part in pattern.iter("listPatternPart")}
+        texts = {part.get("type", ""): part.text or "" for part in pattern.iter("listPatternPart")}
         file.texts.setdefault(kind, {}).update(texts)
     return file
 

@@ -173,11 +173,11 @@ def explained(walk: Walk, bundles: dict[str, Bundle], chosen: Chosen | None) -> 
         bundle = bundles.get(locale)
         if not reached:
             told = "not reached"
+        elif bundle is None:
+            told = "no bundle"
         elif chosen and chosen.locale == locale:
             told, reached = f"form {chosen.form} of {bundle.name}", False
-        elif bundle:
-            told = f"no form for the count in {bundle.name}"
         else:
-            told = "no bundle"
+            told = f"no form for the count in {bundle.name}"
         lines.append(f"{locale}: {told}")
     return lines + ([] if chosen else ["own words"])

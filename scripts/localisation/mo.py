@@ -71,10 +71,10 @@ def rows_of(name: str, data: bytes) -> list[tuple[bytes, bytes]]:
         ]
     except struct.error:
         raise Fault(f"{name}: the MO file is cut off") from None
-    sides = [
+    ids, texts = (
         [data[at:at + length] for length, at in zip(side[::2], side[1::2])] for side in places
-    ]
-    return list(zip(*sides))
+    )
+    return list(zip(ids, texts))
 
 
 def catalog_of(name: str, data: bytes) -> Catalog:

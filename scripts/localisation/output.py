@@ -11,11 +11,11 @@ from collections.abc import Iterator
 from contextlib import contextmanager
 from dataclasses import dataclass, field
 from pathlib import Path
-from typing import BinaryIO
+from typing import IO
 
 
 @contextmanager
-def whole(path: Path | None) -> Iterator[BinaryIO]:
+def whole(path: Path | None) -> Iterator[IO[bytes]]:
     """A file that replaces another only once it is whole; without a path, standard output."""
     if path is None:
         with tempfile.TemporaryFile() as file:

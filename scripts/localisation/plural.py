@@ -22,6 +22,8 @@ MOST_COUNTS = 100_000
 
 N = ("n",)
 Tree = tuple
+# From which count on a value repeats, and after how many counts.
+Way = tuple[int, int]
 
 
 @dataclass(frozen=True)
@@ -156,16 +158,13 @@ def same(first: Rule, second: Rule) -> bool:
     """Whether two rules give the same form at every count."""
     if (first.tree, first.bound) == (second.tree, second.bound):
         return True
-    ways = [_repeats(first.tree), _repeats(second.tree)]
-    if None in ways:
+    way = _all([_repeats(first.tree), _repeats(second.tree)])
+    if way is None or sum(way) > MOST_COUNTS:
         return False
-    last = max(bound for bound, _ in ways) + math.lcm(*(length for _, length in ways))
-    if last > MOST_COUNTS:
-        return False
-    return all(first.form(n) == second.form(n) for n in range(last + 1))
+    return all(first.form(n) == second.form(n) for n in range(sum(way) + 1))
 
 
-def _repeats(tree: Tree) -> tuple[int, int] | None:
+def _repeats(tree: Tree) -> Way | None:
     """From which count on the value repeats, and after how many counts; none where unknown."""
     sign, *parts = tree
     if sign == "n":
@@ -179,7 +178,12 @@ def _repeats(tree: Tree) -> tuple[int, int] | None:
         return (other[1] + 1, 1) if other[0] == "number" else None
     # As a truth the count changes once, behind 0.
     truths = len(parts) if sign in ("!", "&&", "||") else 1 if sign == "?" else 0
-    ways = [(1, 1) if p == N and i < truths else _repeats(p) for i, p in enumerate(parts)]
-    if None in ways:
+    return _all([(1, 1) if p == N and i < truths else _repeats(p) for i, p in enumerate(parts)])
+
+
+def _all(ways: list[Way | None]) -> Way | None:
+    """How values repeat together."""
+    known = [way for way in ways if way]
+    if len(known) < len(ways):
         return None
-    return max(bound for bound, _ in ways), math.lcm(*(length for _, length in ways))
+    return max(bound for bound, _ in known), math.lcm(*(length for _, length in known))

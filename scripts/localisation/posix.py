@@ -55,7 +55,8 @@ def tag_of(name: str) -> str:
 
 def _subtags(name: str, pieces: list[str]) -> tuple[str, str, list[str]]:
     """Script, region and variants, each in its canonical case and in its place."""
-    script, region, variants = "", "", []
+    script, region = "", ""
+    variants: list[str] = []
     for piece in pieces:
         if not region and not variants and not script and SCRIPT.fullmatch(piece.title()):
             script = piece.title()

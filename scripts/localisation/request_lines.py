@@ -6,7 +6,7 @@ import io
 import json
 from collections.abc import Iterable, Iterator
 from dataclasses import dataclass
-from typing import BinaryIO
+from typing import Any, BinaryIO
 
 from localisation.faults import Fault
 from localisation.json_text import JsonText, one_line
@@ -27,14 +27,14 @@ class RequestLine:
 
 def request_lines(stream: BinaryIO, name: str) -> Iterator[RequestLine]:
     """The requests of a stream. Each is one JSON value; its shape is the program's to judge."""
-    first, stream = _first(stream)
+    first, whole = _first(stream)
     if first == b"[":
-        text = JsonText(io.TextIOWrapper(stream, "utf-8", newline=""), name)
+        text = JsonText(io.TextIOWrapper(whole, "utf-8", newline=""), name)
         for number, item in enumerate(text.items()):
             yield RequestLine(one_line(item), f"{name} request {number}")
         text.end()
         return
-    for number, line in enumerate(stream, 1):
+    for number, line in enumerate(whole, 1):
         if line := line.strip():
             fault = not_one_value(line)
             if fault:
@@ -55,13 +55,12 @@ def not_one_value(line: bytes) -> str | None:
     return None
 
 
-def _first(stream: BinaryIO) -> tuple[bytes, BinaryIO]:
+def _first(stream: BinaryIO) -> tuple[bytes, io.BufferedReader]:
     """The first byte of a stream that isn't space, and the stream from there on."""
-    buffered = io.BufferedReader(stream) if isinstance(stream, io.RawIOBase) else stream
     skipped = b""
-    while (byte := buffered.read(1)) and byte.isspace():
+    while (byte := stream.read(1)) and byte.isspace():
         skipped += byte
-    return byte, io.BufferedReader(_Joined(skipped + byte, buffered))
+    return byte, io.BufferedReader(_Joined(skipped + byte, stream))
 
 
 class _Joined(io.RawIOBase):
@@ -73,7 +72,7 @@ class _Joined(io.RawIOBase):
     def readable(self) -> bool:
         return True
 
-    def readinto(self, buffer: memoryview) -> int:
+    def readinto(self, buffer: Any) -> int:
         piece = self.front[:len(buffer)] or self.stream.read(len(buffer))
         self.front = self.front[len(buffer):]
         buffer[:len(piece)] = piece

@@ -8,9 +8,7 @@ and then the lines come, shard by shard in order, up to the first refusal.
 from __future__ import annotations
 
 import re
-from collections.abc import Iterator
 from dataclasses import dataclass
-from pathlib import Path
 from typing import BinaryIO
 
 from localisation.cluster import Job, in_order, job
