@@ -39,6 +39,14 @@ class Words(argparse.ArgumentParser):
     def error(self, message: str) -> NoReturn:
         self.exit(WORDS_STATUS, f"{self.prog}: {message}\n")
 
+    def words(self) -> argparse.Namespace:
+        """What the command line says; its words are to be texts, since documents hold texts."""
+        try:
+            "".join(sys.argv).encode()
+        except UnicodeEncodeError:
+            self.error("a word that isn't text")
+        return self.parse_args()
+
 
 def ended(name: str, job: Callable[[], int]) -> int:
     """The status of a job; its fault is told in one line."""

@@ -88,6 +88,10 @@ class Localise(InFolder):
 
 
 class Words(InFolder):
+    def test_a_word_that_is_no_text(self) -> None:
+        done = run("localise", "--domain", "files", "\udcff")
+        self.assert_one_line(done, "a word that isn't text", status=2)
+
     def test_faults_of_words(self) -> None:
         for words in ([], ["Open"], ["--domain", "files", "--plural", "P", "Open"],
                       ["--domain", "files", "--count", "-1", "Open"],
