@@ -91,20 +91,17 @@ def wanted_names(environment: Mapping[str, str]) -> list[str]:
     """The locales that the environment asks for, the dearest first, in gettext's order.
 
     LC_ALL, LC_MESSAGES and LANG name one locale, the first that isn't empty. Where that is `C`
-    LANGUAGE isn't looked at; else it lists locales, up to a `C`.
+    LANGUAGE isn't looked at; else it lists locales, up to a `C`. `C.UTF-8` is neither: it leaves
+    the choice to LANGUAGE.
     """
     variables = ("LC_ALL", "LC_MESSAGES", "LANG")
     locale = next((environment[name] for name in variables if environment.get(name)), "C")
-    if _is_c(locale):
+    if locale in NO_LANGUAGE:
         return ["C"]
     names: list[str] = []
     for name in environment.get("LANGUAGE", "").split(":"):
-        if _is_c(name):
+        if name in NO_LANGUAGE:
             return [*names, "C"]
         if name:
             names.append(name)
     return names or [locale]
-
-
-def _is_c(name: str) -> bool:
-    return name.partition(".")[0] in NO_LANGUAGE

@@ -37,7 +37,10 @@ ENVIRONMENTS = [
     ({"LANG": "fr", "LANGUAGE": ""}, ["fr"]),
     ({"LANG": "fr", "LANGUAGE": "pt:C:es"}, ["pt", "C"]),
     ({"LANG": "C", "LANGUAGE": "fr"}, ["C"]),
-    ({"LC_ALL": "C.UTF-8", "LANG": "fr", "LANGUAGE": "fr"}, ["C"]),
+    ({"LANG": "POSIX", "LANGUAGE": "fr"}, ["C"]),
+    ({"LC_ALL": "C.UTF-8", "LANG": "es", "LANGUAGE": "fr"}, ["fr"]),
+    ({"LC_ALL": "C.UTF-8", "LANG": "es"}, ["C.UTF-8"]),
+    ({"LANG": "fr", "LANGUAGE": "pt:C.UTF-8:es"}, ["pt", "C.UTF-8", "es"]),
     ({"LANGUAGE": "fr"}, ["C"]),
 ]
 
