@@ -49,8 +49,10 @@ class Localise(InFolder):
         items = ["--item", "Ana", "--item", "Ibiza", "Hello %s"]
         self.assertEqual(self.line(*words, "es_MX", *items), "Hola Ana e Ibiza\n")
         self.assertEqual(self.line(*words, "fr", *items), "Bonjour Ana et Ibiza\n")
-        self.assertEqual(self.line("--list", "or", *words, "fr", *items),
-                         "Bonjour Ana or Ibiza\n")
+        words = ["--list", "or", *words]
+        self.assertEqual(self.line(*words, "fr", *items), "Bonjour Ana or Ibiza\n")
+        items = ["--item", "Ana", "--item", "hora", "Hello %s"]
+        self.assertEqual(self.line(*words, "es", *items), "Hola Ana u hora\n")
 
     def test_the_environment(self) -> None:
         words = ["--domain", "files", "Hello %s"]
