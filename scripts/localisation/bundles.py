@@ -79,7 +79,7 @@ def without(wanted: Sequence[Wanted], refused: Sequence[Refused]) -> list[Wanted
     ]
 
 
-def fault_of(refused: Sequence[Refused]) -> Fault:
-    """Every refused catalog with its cause, in one line."""
+def fault_of(refused: Sequence[Refused], hint: str = "") -> Fault:
+    """Every refused catalog with its cause, in one line, and a hint behind them."""
     told = "; ".join(f"{each.path}: {each.cause}" for each in refused)
-    return Fault(f"{told} (--skip-faulty leaves out what is refused)", BUNDLE)
+    return Fault(f"{told} {hint}", BUNDLE)

@@ -131,7 +131,7 @@ def _sound(
     """The same without the catalogs that the program refuses, or a fault that names them."""
     refused = refused_of(program, [path for each in wanted for path in each.paths])
     if refused and not sources.skip_faulty:
-        raise bundles.fault_of(refused)
+        raise bundles.fault_of(refused, "(--skip-faulty leaves out what is refused)")
     for each in refused:
         note(NAME, f"{each.path}: {each.cause}; left out")
     return bundles.without(wanted, refused)

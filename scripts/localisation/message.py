@@ -1,8 +1,9 @@
 """One message from the shell: the bundles of its locale's walk, its line, and who answered.
 
-Which locales a walk visits, which bundle of them answers and what is printed is asked of the
-program. To learn who answers, it is given catalogs with the same rules that hold this message
-alone, each form's text saying where it stands; its line then names the bundle and the form.
+Which locales a walk visits, which catalogs are sound, which bundle answers and what is printed is
+asked of the program, and no catalog is read here before it is known to be sound. To learn who
+answers, it is given catalogs with the same rules that hold this message alone, each form's text
+saying where it stands; its line then names the bundle and the form.
 """
 
 from __future__ import annotations
@@ -12,12 +13,12 @@ from dataclasses import dataclass, replace
 from pathlib import Path
 
 from localisation import folder
-from localisation.bundles import Bundle, PatternsOf, bundles_of
+from localisation.bundles import Bundle, PatternsOf, bundles_of, fault_of
 from localisation.document import TAIL, Head, compact
 from localisation.faults import Fault
 from localisation.mo import catalog_of, file_of
 from localisation.program import BUNDLE, DONE, REQUEST, Answer, Program
-from localisation.refused import unexpected
+from localisation.refused import refused_of, unexpected
 
 Request = dict[str, object]
 # Counts below this are tried for a message without one.
@@ -94,7 +95,10 @@ class Shell:
     def bundles(
         self, walks: Sequence[Walk], by_locale: dict[str, list[str]], patterns_of: PatternsOf
     ) -> dict[str, Bundle]:
-        """The bundles of the walks, by locale. All names of one locale make one bundle."""
+        """The bundles of the walks, by locale. All names of one locale make one bundle.
+
+        Catalogs that the program refuses are a fault that names them, whoever answers.
+        """
         visited = dict.fromkeys(locale for walk in walks for locale in walk.locales)
         wanted = [
             folder.Wanted(locale, tuple(names), tuple(paths))
@@ -102,6 +106,8 @@ class Shell:
             if (names := by_locale.get(locale))
             and (paths := list(folder.paths_of(self.catalogs, self.domains, names)))
         ]
+        if refused := refused_of(self.program, [path for each in wanted for path in each.paths]):
+            raise fault_of(refused)
         return {bundle.tag: bundle for bundle in bundles_of(wanted, patterns_of)}
 
     def chosen(self, bundles: dict[str, Bundle], request: Request) -> Chosen | None:

@@ -81,12 +81,37 @@ class Localise(InFolder):
         faults = {
             ("--domain", "none", "Open"): 1,
             (*WORDS, "x!", "Open"): 1,
-            (*WORDS, "it", "Open"): 6,
             (*WORDS, "fr", "--cldr", self.folder, "Open"): 1,
         }
         for words, status in faults.items():
             with self.subTest(words):
                 self.assert_one_line(self.localise(*words), "localise: ", status=status)
+
+    def test_a_refused_catalog_is_told_as_the_program_tells_it(self) -> None:
+        faults = {
+            "it": (mo(("a", "b"))[:40], "unxpected end of file"),
+            "nl": (b"none".ljust(28, b"\0"), "bad magic number"),
+            "pl": (mo(plural="nplurals=2; plural=EXPRESSION;"), "invalid plural expression"),
+            "sv": (mo(("a", "b"), charset="KOI8-R"), "unknown encoding specified"),
+        }
+        for locale, (data, cause) in faults.items():
+            path = self.write(f"locale/{locale}/LC_MESSAGES/files.mo", data)
+            self.catalog(locale, "tools", ("Bye", "b"))
+            ways = [
+                (locale, "Open"), (locale, "--count", "2", "Open"), (locale, "--explain", "Open"),
+                (locale, "--domain", "tools", "Bye"),
+            ]
+            for words in ways:
+                with self.subTest(words):
+                    done = self.localise(*WORDS, *words)
+                    self.assert_one_line(done, f"localise: {path}: {cause}\n", status=6)
+                    self.assertEqual(done.stdout, b"")
+
+    def test_a_refused_catalog_is_told_though_another_answers(self) -> None:
+        path = self.write("locale/fr/LC_MESSAGES/files.mo", b"none")
+        done = self.localise(*WORDS, "fr_CA", "Hello %s")
+        self.assert_one_line(done, f"localise: {path}: unxpected end of file\n", status=6)
+        self.assertEqual(self.line(*WORDS, "es", "Hello %s"), "Hola %s\n")
 
 
 class Words(InFolder):
