@@ -121,7 +121,7 @@ fn of_tables(alloc: Global, tables: &[(&str, &[TextRow])]) -> Result<Value, Allo
 fn of_rows(alloc: Global, rows: &[TextRow]) -> Result<Value, AllocError> {
     let mut lists = Vec::new(alloc);
     for row in rows {
-        lists.push(of_texts(alloc, [&row.first, &row.second, &row.third])?)?;
+        lists.push(of_texts(alloc, &[&row.first, &row.second, &row.third])?)?;
     }
     Ok(Value::Array(lists))
 }
@@ -152,7 +152,7 @@ fn of_patterns(alloc: Global, patterns: &PatternTexts) -> Result<Value, AllocErr
 
 fn of_special(alloc: Global, special: &Option<Special>) -> Result<Value, AllocError> {
     match special {
-        Some(special) => of_texts(alloc, [&special.condition, &special.pattern]),
+        Some(special) => of_texts(alloc, &[&special.condition, &special.pattern]),
         None => Ok(Value::Null),
     }
 }
@@ -182,7 +182,7 @@ fn of_text(alloc: Global, text: &OwnedText) -> Result<Value, AllocError> {
     answers::text(alloc, text.as_str())
 }
 
-fn of_texts<const N: usize>(alloc: Global, texts: [&OwnedText; N]) -> Result<Value, AllocError> {
+fn of_texts(alloc: Global, texts: &[&OwnedText]) -> Result<Value, AllocError> {
     let mut values = Vec::new(alloc);
     for text in texts {
         values.push(of_text(alloc, text)?)?;

@@ -12,24 +12,21 @@ use calls::answers;
 use calls::answers::{Answer, Object, printed};
 use calls::arguments::{Wrong, numbers, size, text};
 use icu_locale_core::DataLocale;
-use localise::{ChainLoops, Found, Localiser, RenderError, render};
+use localise::{ChainLoops, Found, Localiser, RenderError, Rendered, Request, render};
 use localise_document::Document;
 use serde_json::Value;
 use std::alloc::{AllocError, Global};
 use std::borrow::CowStr;
+use wanted_locale::Tables;
 use writeable::{FixedSink, ScriptSink, SinkError, Writeable};
 
 /// A call of `localise`, by its path.
 pub fn answer<'a>(alloc: Global, call: &str, arguments: &'a [Value]) -> Answer<'a> {
     match (call, arguments) {
         ("Localiser::wanted" | "TagCause::text", [given, tag]) => {
-            let document = document(alloc, given, "\"bundles\":[],\"requests\":[]")?;
-            let tables = tables(alloc, given, &document)?;
-            match Localiser::wanted(alloc, &tables, text(tag)?) {
-                Ok(locale) => Ok(printed(alloc, &locale)?),
-                Err(cause) if call == "TagCause::text" => Ok(answers::text(alloc, cause.text())?),
-                Err(cause) => Ok(of_tag(alloc, cause)?),
-            }
+            document(alloc, given, "\"bundles\":[],\"requests\":[]")
+                .and_then(|document| tables(alloc, given, &document))
+                .and_then(|tables| wanted(alloc, call, &tables, tag))
         }
         ("render", [given, request]) => rendered(alloc, given, request, Vec::new(alloc)),
         ("render", [given, request, failing]) => {
@@ -41,19 +38,57 @@ pub fn answer<'a>(alloc: Global, call: &str, arguments: &'a [Value]) -> Answer<'
     }
 }
 
+fn wanted<'a>(alloc: Global, call: &str, tables: &Tables, tag: &'a Value) -> Answer<'a> {
+    match Localiser::wanted(alloc, tables, text(tag)?) {
+        Ok(locale) => Ok(printed(alloc, &locale)?),
+        Err(cause) if call == "TagCause::text" => Ok(answers::text(alloc, cause.text())?),
+        Err(cause) => Ok(of_tag(alloc, cause)?),
+    }
+}
+
 fn of_localiser<'a>(
     alloc: Global,
     call: &str,
     given: &'a Value,
     others: &'a [Value],
 ) -> Answer<'a> {
-    let requests = requests_of(alloc, others)?;
-    let document = document(alloc, given, requests.as_str())?;
-    let tables = tables(alloc, given, &document)?;
-    let localiser = match Localiser::try_new(alloc, &tables, &document.bundles, &document.root) {
-        Ok(localiser) => localiser,
-        Err(error) => return refused(alloc, call, error),
-    };
+    requests_of(alloc, others)
+        .and_then(|requests| document(alloc, given, requests.as_str()))
+        .and_then(|document| over_document(alloc, call, given, others, &document))
+}
+
+fn over_document<'a>(
+    alloc: Global,
+    call: &str,
+    given: &'a Value,
+    others: &'a [Value],
+    document: &Document,
+) -> Answer<'a> {
+    tables(alloc, given, document).and_then(|tables| over_tables(
+        alloc, call, others, document, &tables,
+    ))
+}
+
+fn over_tables<'a>(
+    alloc: Global,
+    call: &str,
+    others: &'a [Value],
+    document: &Document,
+    tables: &Tables,
+) -> Answer<'a> {
+    match Localiser::try_new(alloc, tables, &document.bundles, &document.root) {
+        Ok(localiser) => over_localiser(alloc, call, others, document, &localiser),
+        Err(error) => refused(alloc, call, error),
+    }
+}
+
+fn over_localiser<'a>(
+    alloc: Global,
+    call: &str,
+    others: &'a [Value],
+    document: &Document,
+    localiser: &Localiser<'_>,
+) -> Answer<'a> {
     match (call, others) {
         ("Localiser::try_new", []) => Ok(Value::Null),
         ("Localiser::bundle_count", []) => Ok(answers::size(localiser.bundle_count())),
@@ -64,7 +99,7 @@ fn of_localiser<'a>(
             }
             Ok(answers::bytes(alloc, localiser.catalog(number).buffer())?)
         }
-        (call, [wanted, _]) => found(alloc, call, &localiser, wanted, &document),
+        (call, [wanted, _]) => found(alloc, call, localiser, wanted, document),
         _ => Err(Wrong::Call),
     }
 }
@@ -154,38 +189,67 @@ fn rendered<'a>(
     request: &'a Value,
     failing: Vec<u64>,
 ) -> Answer<'a> {
-    let requests = format!(in alloc; "\"requests\":[{}]", request.to_string(alloc)?)?;
-    let document = document(alloc, given, requests.as_str())?;
-    let tables = tables(alloc, given, &document)?;
+    document_with(alloc, given, request).and_then(|document| rendered_over(
+        alloc, given, &document, failing,
+    ))
+}
+
+fn document_with<'a>(
+    alloc: Global,
+    given: &'a Value,
+    request: &'a Value,
+) -> Result<Document, Wrong<'a>> {
+    let request = request.to_string(alloc)?;
+    let requests = format!(in alloc; "\"requests\":[{request}]")?;
+    document(alloc, given, requests.as_str())
+}
+
+fn rendered_over<'a>(
+    alloc: Global,
+    given: &'a Value,
+    document: &Document,
+    failing: Vec<u64>,
+) -> Answer<'a> {
     let Some(request) = document.requests.first() else {
         return Err(Wrong::Call);
     };
+    let tables = tables(alloc, given, document)?;
+    Ok(rendered_into(alloc, document, request, &tables, failing)?)
+}
+
+fn rendered_into(
+    alloc: Global,
+    document: &Document,
+    request: &Request,
+    tables: &Tables,
+    failing: Vec<u64>,
+) -> Result<Value, AllocError> {
     let mut sink = ScriptSink::new(alloc, failing);
-    match render(
-        alloc,
-        &tables,
-        &document.bundles,
-        &document.root,
-        request,
-        &mut sink,
-    ) {
+    let bundles = document.bundles.as_slice();
+    let answer = render(alloc, tables, bundles, &document.root, request, &mut sink);
+    of_rendering(alloc, answer, sink.into_string())
+}
+
+fn of_rendering(
+    alloc: Global,
+    answer: Result<Rendered, RenderError>,
+    text: String,
+) -> Result<Value, AllocError> {
+    match answer {
         Ok(rendered) => Ok(
             Object::new(alloc)
-                .with("text", Value::String(sink.into_string()))?
+                .with("text", Value::String(text))?
                 .with("bundle", answers::optional_size(rendered.bundle))?
                 .with("locale", printed(alloc, &rendered.locale)?)?
                 .with("visited", printed(alloc, &rendered.visited)?)?
                 .with("hint", answers::hint(alloc, rendered.hint)?)?
                 .value(),
         ),
-        Err(error) => {
-            let refusal = of_render(alloc, error)?;
-            Ok(
-                Object::new(alloc)
-                    .with("refusal", refusal)?
-                    .with("text", Value::String(sink.into_string()))?
-                    .value(),
-            )
-        }
+        Err(error) => Ok(
+            Object::new(alloc)
+                .with("text", Value::String(text))?
+                .with("refusal", of_render(alloc, error)?)?
+                .value(),
+        ),
     }
 }
