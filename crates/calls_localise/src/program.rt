@@ -1,13 +1,14 @@
-//! Calls of the program: its words, a document, the numbers of the pushes at which the output fails,
-//! if there are any, and behind these the numbers of those at which the error sink fails.
+//! Calls of the program: its words, a document, the numbers of the pushes at which the output
+//! fails, if there are any, and behind these the numbers of those at which the error sink fails.
 //!
 //! A document is a text; an object with the member `most`, which is a source (see
 //! `calls::scripts`); or any other value, which is its own text. A run is answered by its status
 //! and exit code, and by what the output and the error sink took. A status is its name.
 //!
-//! With `"each"` in place of the output's numbers the program runs with its first push failing, then
-//! with its second, and so on while the answer is `WriteFault`. Then the answer is that of the last
-//! run, and whether each output was a front of the output where nothing fails.
+//! With `"each"` in place of the output's numbers the program runs with its first push failing,
+//! then with its second, and so on while the answer is `WriteFault`. Then the answer is that of the
+//! last run, and whether each output was a front of the output where nothing fails. With `"all"`
+//! the answer is what the output took in each of these runs but the last.
 //!
 //! With `"each"` in place of the error sink's numbers its pushes fail in turn until it takes the
 //! text that it takes where none fails. Then the answer is that of the last run, whether each text
@@ -37,6 +38,10 @@ pub fn answer<'a>(alloc: Global, call: &str, arguments: &'a [Value]) -> Answer<'
         ("run", [words, given, Value::String(each)]) if each.as_str() == "each" => {
             let words = texts(alloc, words)?;
             run_into_each(alloc, &words, &source_of(alloc, given)?)
+        }
+        ("run", [words, given, Value::String(all)]) if all.as_str() == "all" => {
+            let words = texts(alloc, words)?;
+            run_into_all(alloc, &words, &source_of(alloc, given)?)
         }
         ("run", [words, given, failing]) => {
             let words = texts(alloc, words)?;
@@ -136,6 +141,18 @@ fn run_into_each<'a>(alloc: Global, words: &[String], document: &Script) -> Answ
             .with("fronts", Value::Bool(fronts))?
             .value(),
     )
+}
+
+fn run_into_all<'a>(alloc: Global, words: &[String], document: &Script) -> Answer<'a> {
+    let mut outputs = Vec::new(alloc);
+    for push in 1..MOST_PUSHES {
+        let outcome = run_once(alloc, words, document, &[push], &[])?;
+        if outcome.status != Status::WriteFault {
+            break;
+        }
+        outputs.push(Value::String(outcome.output))?;
+    }
+    Ok(Value::Array(outputs))
 }
 
 fn run_telling_each<'a>(
