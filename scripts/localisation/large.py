@@ -301,6 +301,10 @@ def empty_objects(size: int) -> bytes:
     return repeated(size, {"bundles": [], "requests": [], "x": ["MARK"]}, b"{}")
 
 
+def small_objects(size: int) -> bytes:
+    return repeated(size, {"bundles": [], "requests": [], "x": ["MARK"]}, b'{"":0}')
+
+
 def unknown_members(size: int) -> bytes:
     members = (b'"%08x":0' % (number * 2654435761 % (1 << 32)) for number in itertools.count())
     front, back = b'{"bundles":[],"requests":[],', b"}"
@@ -347,6 +351,7 @@ GROWING = {
     "deep nesting": Kind(nested, status=4),
     "empty lists": Kind(empty_lists, status=4),
     "empty objects": Kind(empty_objects, status=4),
+    "objects of one member": Kind(small_objects, status=4),
     "unknown members": Kind(unknown_members, status=4),
     "one member again and again": Kind(repeated_member),
     "digits of one count": Kind(digits, status=4),

@@ -1,11 +1,11 @@
-"""Documents of a given size: they are JSON, as long as asked for, and answered as their kind says."""
+"""Documents of a given size: they are JSON, fill their size, and are answered as their kind says."""
 
 import json
 import unittest
 
 from localisation.large import GROWING, PRODUCTS, padded
 from localisation.program import Program
-from tests.support import PROGRAM, needs_program
+from tests.support import PROGRAM, needs_program, run
 
 SIZE = 30_000
 KINDS = {**GROWING, **PRODUCTS}
@@ -27,3 +27,15 @@ class Large(unittest.TestCase):
             with self.subTest(name):
                 answer = Program(PROGRAM).answer("render", [kind.document(SIZE)])
                 self.assertEqual(answer.status, kind.status, answer.fault)
+
+    @needs_program
+    def test_they_are_measured(self) -> None:
+        words = ["--size", SIZE, "--only", "a tag's", "--stack", 8192]
+        done = run("sizes", "--program", PROGRAM, *words)
+        self.assertEqual((done.returncode, done.stderr), (0, b""))
+        lines = done.stdout.decode().splitlines()
+        self.assertEqual(lines[0], "stack: 8192 KiB")
+        self.assertEqual([line.split("  ")[0] for line in lines[1:]], [
+            f"a tag's extension, {command}" for command in ("render", "walk", "generate 1000")
+        ])
+        self.assertNotIn("status", "".join(lines))
