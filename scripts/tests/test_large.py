@@ -1,4 +1,4 @@
-"""Documents of a given size: they are JSON, fill their size, and are answered as their kind says."""
+"""Documents of a given size: they are JSON, fill it, and are answered as their kind says."""
 
 import json
 import unittest
