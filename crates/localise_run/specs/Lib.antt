@@ -2,6 +2,7 @@ pub mod Answers
 pub mod Causes
 pub mod Commands
 pub mod Generating
+pub mod Known
 pub mod Rendering
 pub mod Laws
 pub mod Requests

@@ -10,14 +10,14 @@ ghost use Rattle.localise_run.specs.Writing.{FailsLine, TookLine};
 ghost use Rattle.writeable_core.specs.Sink.{HasCause, TookPrefix};
 
 use crate::render::{of_sink, of_tag};
-use crate::tags::locale_of;
+use crate::tags::KnownTags;
 use crate::{RequestCause, Status};
 use fallback_chain::{steps_to_end, write_chain};
 use icu_locale_core::DataLocale;
 use icu_locale_fallback::LocaleFallbacker;
 use localise::Request;
 use std::alloc::Global;
-use wanted_locale::{Tables, wanted};
+use wanted_locale::Tables;
 use writeable_core::{Sink, SinkError};
 
 /// Writes the walk of each request, in order, up to the first that gets none.
@@ -30,22 +30,15 @@ pub(crate) fn write_walks<O: Sink>(
     ensures { Gives O.took (AreWalked tables.now requests.now) (BeginWalked tables.now requests.now)
         (written O.faults out.old out.new) result }
 {
-    let Some(first) = requests.first() else {
-        return Status::Done;
-    };
-    let mut tag = first.tag.as_str();
-    let mut locale = match wanted(alloc, tables, tag) {
-        Ok(locale) => locale,
-        Err(cause) => return of_tag(0, cause),
+    let Ok(mut tags) = KnownTags::new(alloc) else {
+        return Status::NoMemory;
     };
     for number in 0..requests.len() {
         let request = &requests[number];
-        let next_tag = request.tag.as_str();
-        locale = match locale_of(alloc, tables, tag, locale, next_tag) {
+        let locale = match tags.locale_of(alloc, tables, requests, number) {
             Ok(locale) => locale,
             Err(cause) => return of_tag(number, cause),
         };
-        tag = next_tag;
         if let Err(status) = write_walk(tables, locale, number, request, out) {
             return status;
         }

@@ -3,27 +3,12 @@ use Rattle.std.proofs.Common.{◌≡◌, ◌<◌, List, ℕ, sym, subst, length,
 use Rattle.localise.specs.Meaning.{Meaning}
 use Rattle.localise.specs.Views.{root_of}
 use Rattle.localise_run.proofs.Lines.{got}
-use Rattle.localise_run.proofs.TagBytes.{has_cause, wants}
 use Rattle.std.proofs.Math.Seq.{take-length}
-use Rattle.localise_run.proofs.Written.{WroteTo, wrote_all, wrote_failing, wrote_more, wrote_none, wrote_to_tag}
+use Rattle.localise_run.proofs.Written.{WroteTo, wrote_all, wrote_failing, wrote_more, wrote_to_tag}
 use Rattle.localise_run.specs.Rendering.{AreRendered, BeginRendered, IsLine, IsLineFault, in_tag}
 use Rattle.localise_run.specs.Run.{Gives, written}
 use Rattle.localise_status.specs.declared.status.Status.{Status}
 use Rattle.localise_run.proofs.render.write_lines.Goals as goal
-
-pub returns-in-Err : goal.returns-in-Err
-returns-in-Err g c = λ bundles alike.
-    let T = c.args.tables.now in
-    let root = root_of c.args.localiser.now in
-    let q = c.in-Some.first.now in
-    let took = g.O.Sink.took in
-    let here : slice_get c.args.requests.now 0 ≡ Some q = sym c.in-Some.ensures.value in
-    subst (λ (s : Status). Gives took (AreRendered T bundles root c.args.requests.now) (BeginRendered T bundles root c.args.requests.now) (written g.O.Sink.faults c.args.out.now c.args.out.now) s)
-    (sym c.of_tag.ensures)
-    (wrote_to_tag took g.O.Sink.faults g.met.O.Sink.took_both g.met.O.Sink.took_faults (IsLine T bundles root) (IsLineFault T bundles root) c.args.requests.now
-    c.args.out.now c.args.out.now 0 q c.in-Err.cause
-    (wrote_none took g.O.Sink.faults g.met.O.Sink.took_both g.met.O.Sink.took_faults (IsLine T bundles root) (IsLineFault T bundles root) c.args.requests.now c.args.out.now (g.met.O.Sink.took_nothing c.args.out.now))
-    here (λ some. in_tag (has_cause T q c.as_str-tag.result.now c.as_str-tag.utf8 c.as_str-tag.ensures c.in-Err.cause c.in-Err.ensures.err some)))
 
 pub returns-in-Err-locale_of : goal.returns-in-Err-locale_of
 returns-in-Err-locale_of g c = λ bundles alike.
@@ -38,11 +23,14 @@ returns-in-Err-locale_of g c = λ bundles alike.
     (wrote_to_tag took g.O.Sink.faults g.met.O.Sink.took_both g.met.O.Sink.took_faults (IsLine T bundles root) (IsLineFault T bundles root) c.args.requests.now
     c.args.out.now c.loop-number.out c.loop-number.number q c.in-Err-locale_of.cause (c.loop-number.invariant.0 bundles alike)
     (got c.args.requests.now c.loop-number.number q within c.index-requests-number.is)
-    (λ some. in_tag (has_cause T q c.as_str-next_tag.result.now c.as_str-next_tag.utf8 c.as_str-next_tag.ensures c.in-Err-locale_of.cause c.in-Err-locale_of.ensures.err some)))
+    (λ some. in_tag (c.in-Err-locale_of.ensures.err q (got c.args.requests.now c.loop-number.number q within c.index-requests-number.is) some)))
 
 pub write_request-requires-clause-wants : goal.write_request-requires-clause-wants
 write_request-requires-clause-wants g c =
-    wants c.args.tables.now c.index-requests-number.result c.as_str-next_tag.result.now c.as_str-next_tag.utf8 c.as_str-next_tag.ensures c.in-Ok-locale_of.locale c.in-Ok-locale_of.ensures.ok
+    let end = c.loop-number.auto.number-end in
+    let within : c.loop-number.number < length c.args.requests.now = omega (arith, c.loop-number-test.true) in
+    c.in-Ok-locale_of.ensures.ok c.index-requests-number.result
+    (got c.args.requests.now c.loop-number.number c.index-requests-number.result within c.index-requests-number.is)
 
 pub returns-in-Err-write_request : goal.returns-in-Err-write_request
 returns-in-Err-write_request g c = λ bundles alike.
@@ -66,8 +54,7 @@ loop-number-preserved g c =
           let line = c.in_default-write_request.ensures.ok bundles alike in
           wrote_more g.O.Sink.took g.O.Sink.faults g.met.O.Sink.took_both g.met.O.Sink.took_faults (IsLine T bundles root) (IsLineFault T bundles root) c.args.requests.now
           c.args.out.now c.loop-number.out c.write_request.new.out c.loop-number.number q line.line (c.loop-number.invariant.0 bundles alike) within c.index-requests-number.is line.is line.taken,
-      c.in-Ok-locale_of.ensures.ok,
-      c.as_str-next_tag.utf8,
+      c.in-Ok-locale_of.ensures.kept,
     )
 
 pub returns : goal.returns

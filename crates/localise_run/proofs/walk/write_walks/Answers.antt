@@ -1,25 +1,11 @@
 -- A line more, or the request at which the walks stop.
 use Rattle.std.proofs.Common.{◌≡◌, ◌<◌, sym, subst, length, arith, slice_get, Some}
 use Rattle.localise_run.proofs.Lines.{got}
-use Rattle.localise_run.proofs.TagBytes.{has_cause, wants}
-use Rattle.localise_run.proofs.Written.{wrote_failing, wrote_more, wrote_none, wrote_to_tag}
+use Rattle.localise_run.proofs.Written.{wrote_failing, wrote_more, wrote_to_tag}
 use Rattle.localise_run.specs.Run.{Gives, written}
 use Rattle.localise_run.specs.Walking.{AreWalked, BeginWalked, IsWalkFault, IsWalkLine, in_tag}
 use Rattle.localise_status.specs.declared.status.Status.{Status}
 use Rattle.localise_run.proofs.walk.write_walks.Goals as goal
-
-pub returns-in-Err : goal.returns-in-Err
-returns-in-Err g c =
-    let T = c.args.tables.now in
-    let q = c.in-Some.first.now in
-    let took = g.O.Sink.took in
-    let here : slice_get c.args.requests.now 0 ≡ Some q = sym c.in-Some.ensures.value in
-    subst (λ (s : Status). Gives took (AreWalked T c.args.requests.now) (BeginWalked T c.args.requests.now) (written g.O.Sink.faults c.args.out.now c.args.out.now) s)
-    (sym c.of_tag.ensures)
-    (wrote_to_tag took g.O.Sink.faults g.met.O.Sink.took_both g.met.O.Sink.took_faults (IsWalkLine T) (IsWalkFault T) c.args.requests.now
-    c.args.out.now c.args.out.now 0 q c.in-Err.cause
-    (wrote_none took g.O.Sink.faults g.met.O.Sink.took_both g.met.O.Sink.took_faults (IsWalkLine T) (IsWalkFault T) c.args.requests.now c.args.out.now (g.met.O.Sink.took_nothing c.args.out.now))
-    here (λ some. in_tag (has_cause T q c.as_str-tag.result.now c.as_str-tag.utf8 c.as_str-tag.ensures c.in-Err.cause c.in-Err.ensures.err some)))
 
 pub returns-in-Err-locale_of : goal.returns-in-Err-locale_of
 returns-in-Err-locale_of g c =
@@ -33,11 +19,14 @@ returns-in-Err-locale_of g c =
     (wrote_to_tag took g.O.Sink.faults g.met.O.Sink.took_both g.met.O.Sink.took_faults (IsWalkLine T) (IsWalkFault T) c.args.requests.now
     c.args.out.now c.loop-number.out c.loop-number.number q c.in-Err-locale_of.cause c.loop-number.invariant.0
     (got c.args.requests.now c.loop-number.number q within c.index-requests-number.is)
-    (λ some. in_tag (has_cause T q c.as_str-next_tag.result.now c.as_str-next_tag.utf8 c.as_str-next_tag.ensures c.in-Err-locale_of.cause c.in-Err-locale_of.ensures.err some)))
+    (λ some. in_tag (c.in-Err-locale_of.ensures.err q (got c.args.requests.now c.loop-number.number q within c.index-requests-number.is) some)))
 
 pub write_walk-requires : goal.write_walk-requires
 write_walk-requires g c =
-    wants c.args.tables.now c.index-requests-number.result c.as_str-next_tag.result.now c.as_str-next_tag.utf8 c.as_str-next_tag.ensures c.in-Ok-locale_of.locale c.in-Ok-locale_of.ensures.ok
+    let end = c.loop-number.auto.number-end in
+    let within : c.loop-number.number < length c.args.requests.now = omega (arith, c.loop-number-test.true) in
+    c.in-Ok-locale_of.ensures.ok c.index-requests-number.result
+    (got c.args.requests.now c.loop-number.number c.index-requests-number.result within c.index-requests-number.is)
 
 pub returns-in-Err-write_walk : goal.returns-in-Err-write_walk
 returns-in-Err-write_walk g c =
@@ -58,6 +47,5 @@ loop-number-preserved g c =
     let line = c.in_default-write_walk.ensures.ok in (
       wrote_more g.O.Sink.took g.O.Sink.faults g.met.O.Sink.took_both g.met.O.Sink.took_faults (IsWalkLine T) (IsWalkFault T) c.args.requests.now
           c.args.out.now c.loop-number.out c.write_walk.new.out c.loop-number.number q line.line c.loop-number.invariant.0 within c.index-requests-number.is line.is line.taken,
-      c.in-Ok-locale_of.ensures.ok,
-      c.as_str-next_tag.utf8,
+      c.in-Ok-locale_of.ensures.kept,
     )
