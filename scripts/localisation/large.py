@@ -205,14 +205,6 @@ def registry(size: int) -> bytes:
     return filled(size, value, rows)
 
 
-def languages(size: int) -> bytes:
-    letters = itertools.product("abcdefghijklmnopqrstuvwxyz", repeat=8)
-    rows = (compact(["".join(language), "en"]) for language in letters)
-    value = {"registry": {"languages_preferred": ["MARK"]}, "bundles": [],
-             "requests": [request("aaaaaaab")]}
-    return filled(size, value, rows)
-
-
 def parents(size: int) -> bytes:
     rows = (compact([locale, locale[:3]]) for locale in locales())
     asked = [request(tag) for tag in itertools.islice(locales(), 10)]
@@ -334,8 +326,7 @@ GROWING = {
     "forms of one message": Kind(forms),
     "one form without placeholder": Kind(long_form, made=4),
     "placeholders in one form": Kind(placeholders_in_form, made=4),
-    "rows of variants in the registry": Kind(registry),
-    "rows of languages in the registry": Kind(languages),
+    "rows of the registry": Kind(registry),
     "rows of parents": Kind(parents),
     "rows of likely scripts": Kind(likely),
     "items": Kind(items),
@@ -354,7 +345,7 @@ GROWING = {
     "objects of one member": Kind(small_objects, status=4),
     "unknown members": Kind(unknown_members, status=4),
     "one member again and again": Kind(repeated_member),
-    "digits of one count": Kind(digits, status=4),
+    "digits of one count": Kind(digits, status=3),
 }
 
 
