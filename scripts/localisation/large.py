@@ -22,6 +22,8 @@ TO_THE_END = {**SPANISH, "end_special": {"condition": "^.*b$", "pattern": "{0} e
 EMPTY_MO = layout([]).hex()
 # The greatest nesting that is read, and that of a list in a member of the document.
 NESTING = 127 - 1
+# The greatest height of a plural expression.
+HEIGHT = 64
 
 
 @dataclass(frozen=True)
@@ -162,7 +164,9 @@ def expression(size: int) -> bytes:
 
 
 def with_expression(leaves: int) -> bytes:
-    rule = b"Plural-Forms: nplurals=9; plural=" + sum_of(leaves) + b"\n"
+    """A file whose expression is as high as one may be, whatever its length."""
+    high = b"(" * (HEIGHT - 2) + b"n" + b")" * (HEIGHT - 2)
+    rule = b"Plural-Forms: nplurals=9; plural=" + sum_of(leaves) + b"+" + high + b"\n"
     return layout([(b"", rule), (b"Hi", b"Salut\0" * 2)])
 
 
