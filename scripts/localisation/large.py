@@ -22,6 +22,8 @@ TO_THE_END = {**SPANISH, "end_special": {"condition": "^.*b$", "pattern": "{0} e
 EMPTY_MO = layout([]).hex()
 # The greatest nesting that is read, and that of a list in a member of the document.
 NESTING = 127 - 1
+# The greatest height of a plural expression.
+HEIGHT = 64
 
 
 @dataclass(frozen=True)
@@ -162,7 +164,9 @@ def expression(size: int) -> bytes:
 
 
 def with_expression(leaves: int) -> bytes:
-    rule = b"Plural-Forms: nplurals=9; plural=" + sum_of(leaves) + b"\n"
+    """A file whose expression is as high as one may be, whatever its length."""
+    high = b"(" * (HEIGHT - 2) + b"n" + b")" * (HEIGHT - 2)
+    rule = b"Plural-Forms: nplurals=9; plural=" + sum_of(leaves) + b"+" + high + b"\n"
     return layout([(b"", rule), (b"Hi", b"Salut\0" * 2)])
 
 
@@ -202,14 +206,6 @@ def registry(size: int) -> bytes:
     rows = (compact([f"{number:08d}", "en"]) for number in itertools.count())
     value = {"registry": {"variants": ["MARK"]}, "bundles": [],
              "requests": [request("en-00000009")]}
-    return filled(size, value, rows)
-
-
-def languages(size: int) -> bytes:
-    letters = itertools.product("abcdefghijklmnopqrstuvwxyz", repeat=8)
-    rows = (compact(["".join(language), "en"]) for language in letters)
-    value = {"registry": {"languages_preferred": ["MARK"]}, "bundles": [],
-             "requests": [request("aaaaaaab")]}
     return filled(size, value, rows)
 
 
@@ -334,8 +330,7 @@ GROWING = {
     "forms of one message": Kind(forms),
     "one form without placeholder": Kind(long_form, made=4),
     "placeholders in one form": Kind(placeholders_in_form, made=4),
-    "rows of variants in the registry": Kind(registry),
-    "rows of languages in the registry": Kind(languages),
+    "rows of the registry": Kind(registry),
     "rows of parents": Kind(parents),
     "rows of likely scripts": Kind(likely),
     "items": Kind(items),
@@ -354,7 +349,7 @@ GROWING = {
     "objects of one member": Kind(small_objects, status=4),
     "unknown members": Kind(unknown_members, status=4),
     "one member again and again": Kind(repeated_member),
-    "digits of one count": Kind(digits, status=4),
+    "digits of one count": Kind(digits, status=3),
 }
 
 
