@@ -8,7 +8,7 @@ use Rattle.gettext.specs.Metadata.{Field}
 use Rattle.gettext.specs.Options.{Options}
 use Rattle.gettext.specs.Layout.{originals_of, translations_of, original_of, translation_of, count_of}
 use Rattle.gettext.specs.Mo.{first_encoding, later_encoding, fields_in_file}
-use Rattle.gettext.specs.Faults.{IsMoFault, header_conditions, text_conditions, head_conditions, forms_conditions, original_conditions, translation_conditions, row_conditions, rows_conditions, metadata_conditions, all_rows_conditions, mo_fault}
+use Rattle.gettext.specs.Faults.{IsMoFault, header_conditions, text_conditions, head_conditions, forms_conditions, original_conditions, translation_conditions, row_conditions, rows_conditions, metadata_conditions, all_rows_conditions, first_fault, mo_fault}
 
 abbrev AreFaults : List (Condition Error) → Type 0
 AreFaults = AllByRecursion (λ c. IsMoFault c.1)
@@ -48,21 +48,23 @@ unfolding rows_conditions
 rows b e i zero = tt
 rows b e i (suc n) = both (row_conditions b e i) (rows_conditions b e (suc i) n) (row b e i) (rows b e (suc i) n)
 
-metadata : (o : Options) (found : Option (List Field)) → AreFaults (metadata_conditions o found)
+metadata : (o : Options) (found : Option (List Field)) (ruled : Bool) → AreFaults (metadata_conditions o found ruled)
 unfolding metadata_conditions
-metadata o found = (tt, (tt, (tt, tt)))
+metadata o found ruled = (tt, (tt, (tt, tt)))
 
-all_rows : (b : List ℕ) (o : Options) (n : ℕ) → AreFaults (all_rows_conditions b o n)
+all_rows : (b : List ℕ) (o : Options) (ruled : Bool) (n : ℕ) → AreFaults (all_rows_conditions b o ruled n)
 unfolding all_rows_conditions
-all_rows b o zero = tt
-all_rows b o (suc n) =
-    both (row_conditions b (first_encoding o) 0) (metadata_conditions o (fields_in_file b o) ++ rows_conditions b (later_encoding b o) 1 n) (row b (first_encoding o) 0)
-    (both (metadata_conditions o (fields_in_file b o)) (rows_conditions b (later_encoding b o) 1 n) (metadata o (fields_in_file b o)) (rows b (later_encoding b o) 1 n))
+all_rows b o ruled zero = tt
+all_rows b o ruled (suc n) =
+    both (row_conditions b (first_encoding o) 0) _ (row b (first_encoding o) 0)
+    (both (metadata_conditions o (fields_in_file b o) ruled) _ (metadata o (fields_in_file b o) ruled) (rows b (later_encoding b o) 1 n))
 
 header : (b : List ℕ) → AreFaults (header_conditions b)
 unfolding header_conditions
 header b = (tt, (tt, (tt, (tt, tt))))
 
-pub is_mo_fault : (b : List ℕ) (o : Options) (e : Error) → mo_fault b o ≡ Some e → IsMoFault e
-unfolding mo_fault
-is_mo_fault b o e h = is_one (header_conditions b ++ all_rows_conditions b o (count_of b)) e (both (header_conditions b) (all_rows_conditions b o (count_of b)) (header b) (all_rows b o (count_of b))) h
+pub is_mo_fault : (b : List ℕ) (o : Options) (e : Error) → mo_fault b o (Some e) → IsMoFault e
+unfolding first_fault
+is_mo_fault b o e h =
+    is_one (header_conditions b ++ all_rows_conditions b o h.ruled (count_of b)) e
+    (both (header_conditions b) _ (header b) (all_rows b o h.ruled (count_of b))) h.first

@@ -11,13 +11,14 @@ use Rattle.gettext.specs.declared.parser.settings.Settings.{Settings}
 use Rattle.gettext.specs.declared.spans.Row.{Row}
 use Rattle.gettext.specs.Options.{Options}
 use Rattle.gettext.specs.Mo.{first_encoding, later_encoding, fields_in_file}
-use Rattle.gettext.specs.Faults.{row_conditions, rows_conditions, metadata_conditions, all_rows_conditions}
+use Rattle.gettext.specs.Faults.{row_conditions, rows_conditions, all_rows_conditions}
+use Rattle.gettext.specs.Checks.{metadata_checks, all_rows_checks}
 use Rattle.gettext.specs.Reader.{row_of, rows_from, IsReadRow, IsRowIn, Pushed}
 use Rattle.gettext.specs.Decoding.{AreRowsIn}
 use Rattle.gettext.specs.Settings.{IsSettings}
 use Rattle.gettext.specs.Files.{found_fields, AreFileRows}
 
-pub no_rows : (b : List ℕ) (o : Options) (n : ℕ) (rows : List Row) (s : Settings) → n ≡ 0 → rows ≡ [] → IsSettings o [] s → AreFileRows b o n rows s × (first_failure (all_rows_conditions b o n) ≡ None)
+pub no_rows : (b : List ℕ) (o : Options) (n : ℕ) (rows : List Row) (s : Settings) → n ≡ 0 → rows ≡ [] → IsSettings o [] s → AreFileRows b o n rows s × (first_failure (all_rows_checks b o n) ≡ None)
 unfolding all_rows_conditions rows_from found_fields
 no_rows b o n rows s z r h = rw (z, r) (record { are = refl; fit = tt; settings = h }, refl)
 
@@ -29,35 +30,35 @@ module _ (b : List ℕ) (o : Options) (n : ℕ) (some : n ≡ 0 → ⊥) where
   more : n ≡ suc (n - 1)
   more = omega (arith, some)
 
-  conditions : first_failure (all_rows_conditions b o n) ≡ first_failure (row_conditions b (first_encoding o) 0 ++ (metadata_conditions o (fields_in_file b o) ++ rows_conditions b (later_encoding b o) 1 (n - 1)))
+  conditions : first_failure (all_rows_checks b o n) ≡ first_failure (row_conditions b (first_encoding o) 0 ++ (metadata_checks o (fields_in_file b o) ++ rows_conditions b (later_encoding b o) 1 (n - 1)))
   unfolding all_rows_conditions
-  conditions = ap (λ (k : ℕ). first_failure (all_rows_conditions b o k)) more
+  conditions = ap (λ (k : ℕ). first_failure (all_rows_checks b o k)) more
 
-  pub first_fails : (e : Error) → first_failure (row_conditions b (first_encoding o) 0) ≡ Some e → first_failure (all_rows_conditions b o n) ≡ Some e
+  pub first_fails : (e : Error) → first_failure (row_conditions b (first_encoding o) 0) ≡ Some e → first_failure (all_rows_checks b o n) ≡ Some e
   first_fails e h = conditions ∙ failed_first (row_conditions b (first_encoding o) 0) _ e h
 
   module _ (first : first_failure (row_conditions b (first_encoding o) 0) ≡ None) where
-    behind_first : first_failure (all_rows_conditions b o n) ≡ first_failure (metadata_conditions o (fields_in_file b o) ++ rows_conditions b (later_encoding b o) 1 (n - 1))
+    behind_first : first_failure (all_rows_checks b o n) ≡ first_failure (metadata_checks o (fields_in_file b o) ++ rows_conditions b (later_encoding b o) 1 (n - 1))
     behind_first = conditions ∙ passed_first (row_conditions b (first_encoding o) 0) _ first
 
-    pub metadata_fail : (e : Error) → (e ≡ NoMemory) ⊎ (first_failure (metadata_conditions o (fields_in_file b o)) ≡ Some e) → (e ≡ NoMemory) ⊎ (first_failure (all_rows_conditions b o n) ≡ Some e)
+    pub metadata_fail : (e : Error) → (e ≡ NoMemory) ⊎ (first_failure (metadata_checks o (fields_in_file b o)) ≡ Some e) → (e ≡ NoMemory) ⊎ (first_failure (all_rows_checks b o n) ≡ Some e)
     metadata_fail e (inl memory) = inl memory
-    metadata_fail e (inr h) = inr (behind_first ∙ failed_first (metadata_conditions o (fields_in_file b o)) _ e h)
+    metadata_fail e (inr h) = inr (behind_first ∙ failed_first (metadata_checks o (fields_in_file b o)) _ e h)
 
-    module _ (s : Settings) (settles : IsSettings o (unwrap_or (fields_in_file b o) []) s) (metadata : first_failure (metadata_conditions o (fields_in_file b o)) ≡ None) where
+    module _ (s : Settings) (settles : IsSettings o (unwrap_or (fields_in_file b o) []) s) (metadata : first_failure (metadata_checks o (fields_in_file b o)) ≡ None) where
       later_is : later_encoding b o ≡ s.encoding
       unfolding later_encoding
       later_is = rw settles.encoding refl
 
-      behind_metadata : first_failure (all_rows_conditions b o n) ≡ first_failure (rows_conditions b s.encoding 1 (n - 1))
-      behind_metadata = behind_first ∙ passed_first (metadata_conditions o (fields_in_file b o)) _ metadata ∙ ap (λ (e : Encoding). first_failure (rows_conditions b e 1 (n - 1))) later_is
+      behind_metadata : first_failure (all_rows_checks b o n) ≡ first_failure (rows_conditions b s.encoding 1 (n - 1))
+      behind_metadata = behind_first ∙ passed_first (metadata_checks o (fields_in_file b o)) _ metadata ∙ ap (λ (e : Encoding). first_failure (rows_conditions b e 1 (n - 1))) later_is
 
-      pub others_fail : (e : Error) → (e ≡ NoMemory) ⊎ (first_failure (rows_conditions b s.encoding 1 (n - 1)) ≡ Some e) → (e ≡ NoMemory) ⊎ (first_failure (all_rows_conditions b o n) ≡ Some e)
+      pub others_fail : (e : Error) → (e ≡ NoMemory) ⊎ (first_failure (rows_conditions b s.encoding 1 (n - 1)) ≡ Some e) → (e ≡ NoMemory) ⊎ (first_failure (all_rows_checks b o n) ≡ Some e)
       others_fail e (inl memory) = inl memory
       others_fail e (inr h) = inr (behind_metadata ∙ h)
 
       pub all_read : (row : Row) (old new : List Row) → IsReadRow b (first_encoding o) 0 row → old ≡ row ∷ [] → Pushed old new b s.encoding 1 (n - 1) → first_failure (rows_conditions b s.encoding 1 (n - 1)) ≡ None
-          → AreFileRows b o n new s × (first_failure (all_rows_conditions b o n) ≡ None)
+          → AreFileRows b o n new s × (first_failure (all_rows_checks b o n) ≡ None)
       unfolding rows_from found_fields
       all_read row old new read one pushed rest =
           let whole : rows_from b 0 n ≡ row_of b 0 ∷ rows_from b 1 (n - 1) = ap (rows_from b 0) more in

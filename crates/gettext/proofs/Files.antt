@@ -22,7 +22,7 @@ use Rattle.gettext.specs.Metadata.{Field, value_of}
 use Rattle.gettext.specs.Messages.{Message, Messages, Rule, Default, Expr, Function, StandsFor, lookup, has_id, header_of, plurals_among, plurals_of, plurals_named, bound_by}
 use Rattle.gettext.specs.Layout.{count_of}
 use Rattle.gettext.specs.Mo.{AreRows, entries, fields_of_header, header_fields, row_message, first_encoding, later_encoding, plural_of, IsInUtf8}
-use Rattle.gettext.specs.Faults.{mo_fault, rule_by}
+use Rattle.gettext.specs.Checks.{found_fault, rule_by}
 use Rattle.gettext.specs.Settings.{plurals_by}
 use Rattle.gettext.specs.Table.{message_at, IsRowOf, Sorts, held, messages_of, HasOneHeader, Keeps}
 use Rattle.gettext.specs.Reader.{row_of, rows_from, IsRowIn}
@@ -102,7 +102,7 @@ bound_is false (Some text) Function fields pairs r h = absurd (no_function (expr
 
 -- ---- the table
 
-module _ (b : List ℕ) (o : Options) (n : ℕ) (rows : List Row) (s : Settings) (buffer : List ℕ) (laid sorted : List Row) (are : AreFileRows b o n rows s) (counted : n ≡ count_of b) (sound : mo_fault b o ≡ None)
+module _ (b : List ℕ) (o : Options) (n : ℕ) (rows : List Row) (s : Settings) (buffer : List ℕ) (laid sorted : List Row) (are : AreFileRows b o n rows s) (counted : n ≡ count_of b) (sound : found_fault b o ≡ None)
     (fit : AllByRecursion (IsRowOf buffer) laid) (say : map (message_at buffer) laid ≡ all_messages b o n) (sorts : Sorts buffer laid sorted) where
   abbrev kept : Messages
   kept = messages_of (held buffer sorted s.rule)
@@ -217,7 +217,7 @@ module _ (b : List ℕ) (o : Options) (n : ℕ) (rows : List Row) (s : Settings)
   pub fit_in_place : is_in_utf8 count (first_encoding o) s.encoding ≡ true → AllByRecursion (IsRowOf b) rows
   fit_in_place u = (rows_in_place u).fit
 
-  module _ (counted : n ≡ count_of b) (sound : mo_fault b o ≡ None) where
+  module _ (counted : n ≡ count_of b) (sound : found_fault b o ≡ None) where
     pub file_in_place : (sorted : Vec Row Global) → is_in_utf8 count (first_encoding o) s.encoding ≡ true → Sorts b rows sorted.items → IsFile b o (record { texts = None; rows = sorted; settings = s })
     file_in_place sorted u sorts =
         let place = rows_in_place u in

@@ -6,6 +6,8 @@ use Rattle.std.specs.Prelude.{nat_le, is_some, ◌==◌}
 use Rattle.std.specs.Str.{chars}
 use Rattle.std.proofs.lemmas.Bool.{and_parts, leb-true, le-leb}
 use Rattle.std.proofs.lemmas.Slice.Eq.{bytes_eq-Decides}
+use Rattle.std.specs.Bool.{Decides}
+use Rattle.std.proofs.lemmas.Bool.Decides.{same_from_decides}
 use Rattle.writeable_core.specs.FirstFailure.{Condition, first_failure}
 use Rattle.writeable_core.specs.FirstFailureLaws.{failed_first, passed_first, head_passes, parts_pass}
 use Rattle.gettext.specs.declared.error.Error.{Error}
@@ -17,8 +19,9 @@ use Rattle.gettext.specs.Encoding.{is_valid, text_in}
 use Rattle.gettext.specs.Metadata.{Field, value_of}
 use Rattle.gettext.specs.Messages.{Message, Messages, Rule, Default, Expr, has_id}
 use Rattle.gettext.specs.Layout.{head_of, pieces_of, original_of, translation_of, count_of, originals_of, translations_of, little_endian, big_endian}
-use Rattle.gettext.specs.Mo.{AreTexts, IsRow, AreRows, entries, row_message, fields_in_file, header_fields, plural_of, IsRuleBy, named_encoding, first_encoding, later_encoding}
-use Rattle.gettext.specs.Faults.{header_conditions, row_conditions, rows_conditions, metadata_conditions, all_rows_conditions, mo_fault, rule_by, rule_of}
+use Rattle.gettext.specs.Mo.{AreTexts, IsRow, AreRows, entries, row_message, fields_in_file, header_fields, plural_of, IsRuleBy, IsRule, named_encoding, first_encoding, later_encoding}
+use Rattle.gettext.specs.Faults.{header_conditions, row_conditions, rows_conditions, metadata_conditions, all_rows_conditions, first_fault, mo_fault}
+use Rattle.gettext.specs.Checks.{rule_by, rule_of, is_ruled, metadata_checks, all_rows_checks, found_fault}
 use Rattle.gettext.specs.Files.{found_fields}
 use Rattle.gettext.proofs.Encodings.{IsText-is, IsText-text_in}
 use Rattle.gettext.proofs.ExpressionOf.{expression_found, expression_is, some_mapped}
@@ -118,7 +121,7 @@ some_passes : {X : Type 0} (r : Option X) → is_some r ≡ true → (x : X) × 
 some_passes None h = absurd cc
 some_passes (Some x) h = (x, refl)
 
-settled : (o : Options) (found : Option (List Field)) → first_failure (metadata_conditions o found) ≡ None → Settled o found
+settled : (o : Options) (found : Option (List Field)) → first_failure (metadata_checks o found) ≡ None → Settled o found
 unfolding metadata_conditions
 settled o None h = absurd cc
 settled o (Some fields) h =
@@ -131,7 +134,7 @@ settled o (Some fields) h =
     let r = some_passes (rule_of o fields) third.0 in
     record { fields = fields; is = refl; encoding = e.0; named = e.1; rule = r.0; ruled = r.1 }
 
-settled_passes : (o : Options) (found : Option (List Field)) → Settled o found → first_failure (metadata_conditions o found) ≡ None
+settled_passes : (o : Options) (found : Option (List Field)) → Settled o found → first_failure (metadata_checks o found) ≡ None
 unfolding metadata_conditions
 settled_passes o found s = rw (s.is, s.named, s.ruled) refl
 
@@ -206,12 +209,12 @@ named_later : (b : List ℕ) (o : Options) (s : Settled o (fields_in_file b o)) 
 unfolding later_encoding
 named_later b o s = rw (s.is, s.named) refl
 
-all_rows_mean : (b : List ℕ) (o : Options) (n : ℕ) → first_failure (all_rows_conditions b o n) ≡ None → RowsMean b o n
+all_rows_mean : (b : List ℕ) (o : Options) (n : ℕ) → first_failure (all_rows_checks b o n) ≡ None → RowsMean b o n
 unfolding all_rows_conditions all_messages found_fields fields_in_file settled_by_nothing
 all_rows_mean b o zero h = record { settles = settled_by_nothing o; header = refl; rows = tt; count = refl }
 all_rows_mean b o (suc n) h =
     let first = parts_pass (row_conditions b (first_encoding o) 0) _ h in
-    let second = parts_pass (metadata_conditions o (fields_in_file b o)) (rows_conditions b (later_encoding b o) 1 n) first.1 in
+    let second = parts_pass (metadata_checks o (fields_in_file b o)) (rows_conditions b (later_encoding b o) 1 n) first.1 in
     let s = settled o (fields_in_file b o) second.0 in
     record {
       settles = s;
@@ -221,7 +224,7 @@ all_rows_mean b o (suc n) h =
     }
 
 all_rows_are : (b : List ℕ) (o : Options) (pairs : List Message) (fields : List Field) (encoding : Encoding) (rule : Rule) → header_fields pairs ≡ Some fields → named_encoding o fields ≡ Some encoding → rule_of o fields ≡ Some rule
-    → AreRows b (first_encoding o) encoding 0 pairs → (first_failure (all_rows_conditions b o (length pairs)) ≡ None) × (pairs ≡ all_messages b o (length pairs)) × (found_fields b o (length pairs) ≡ Some fields)
+    → AreRows b (first_encoding o) encoding 0 pairs → (first_failure (all_rows_checks b o (length pairs)) ≡ None) × (pairs ≡ all_messages b o (length pairs)) × (found_fields b o (length pairs) ≡ Some fields)
 unfolding all_rows_conditions all_messages found_fields fields_in_file settled_by_nothing
 all_rows_are b o [] fields encoding rule h n r rows = (refl, refl, h)
 all_rows_are b o (m ∷ ms) fields encoding rule h n r rows =
@@ -229,13 +232,13 @@ all_rows_are b o (m ∷ ms) fields encoding rule h n r rows =
     let is : fields_in_file b o ≡ Some fields = rw (← first.1) h in
     let s : Settled o (fields_in_file b o) = record { fields = fields; is = is; encoding = encoding; named = n; rule = rule; ruled = r } in
     let rest = rows_are b (later_encoding b o) 1 ms (rw (named_later b o s) rows.1) in
-    let metadata = passed_first (metadata_conditions o (fields_in_file b o)) (rows_conditions b (later_encoding b o) 1 (length ms)) (settled_passes o (fields_in_file b o) s) in
+    let metadata = passed_first (metadata_checks o (fields_in_file b o)) (rows_conditions b (later_encoding b o) 1 (length ms)) (settled_passes o (fields_in_file b o) s) in
     (passed_first (row_conditions b (first_encoding o) 0) _ (row_passes b (first_encoding o) 0 first.0) ∙ metadata ∙ rest.0, cc, is)
 
-pub has_meaning : (b : List ℕ) (o : Options) → mo_fault b o ≡ None → entries b o (meaning b o)
-unfolding mo_fault meaning rule_found
+pub has_meaning : (b : List ℕ) (o : Options) → found_fault b o ≡ None → entries b o (meaning b o)
+unfolding first_fault meaning rule_found
 has_meaning b o h =
-    let both = parts_pass (header_conditions b) (all_rows_conditions b o (count_of b)) h in
+    let both = parts_pass (header_conditions b) (all_rows_checks b o (count_of b)) h in
     let header = header_holds b both.0 in
     let m = all_rows_mean b o (count_of b) both.1 in
     let rule : rule_of o m.settles.fields ≡ Some (rule_found b o (count_of b)) = rw (m.settles.is, m.settles.ruled) refl in
@@ -253,8 +256,8 @@ has_meaning b o h =
       rule = rule_by-holds o.forced (plural_of m.settles.fields) (rule_found b o (count_of b)) rule;
     }
 
-pub is_meaning : (b : List ℕ) (o : Options) (c : Messages) → entries b o c → (mo_fault b o ≡ None) × (c ≡ meaning b o)
-unfolding mo_fault meaning rule_found
+pub is_meaning : (b : List ℕ) (o : Options) (c : Messages) → entries b o c → (found_fault b o ≡ None) × (c ≡ meaning b o)
+unfolding first_fault meaning rule_found
 is_meaning b o c h =
     let ruled = rule_by-is o.forced (plural_of h.fields) c.rule h.rule in
     let rows = all_rows_are b o c.pairs h.fields h.encoding c.rule h.metadata h.charset ruled h.rows in
@@ -262,7 +265,7 @@ is_meaning b o c h =
     let header = header_passes b (record { header = h.header; magic = h.magic; originals = h.originals; translations = h.translations }) in
     let pairs : c.pairs ≡ all_messages b o (count_of b) = counted.1 in
     let rule : c.rule ≡ rule_found b o (count_of b) = rw (counted.2, ruled) refl in
-    (passed_first (header_conditions b) (all_rows_conditions b o (count_of b)) header ∙ counted.0, λ i. record { rule = rule i; pairs = pairs i })
+    (passed_first (header_conditions b) (all_rows_checks b o (count_of b)) header ∙ counted.0, λ i. record { rule = rule i; pairs = pairs i })
 
 pub fields_are : (b : List ℕ) (o : Options) (c : Messages) (h : entries b o c) → found_fields b o (count_of b) ≡ Some h.fields
 fields_are b o c h =
@@ -272,23 +275,37 @@ fields_are b o c h =
 
 -- ---- what reading says
 
-pub header_fails : (b : List ℕ) (o : Options) (e : Error) → first_failure (header_conditions b) ≡ Some e → mo_fault b o ≡ Some e
-unfolding mo_fault
-header_fails b o e h = failed_first (header_conditions b) (all_rows_conditions b o (count_of b)) e h
+pub header_fails : (b : List ℕ) (o : Options) (e : Error) → first_failure (header_conditions b) ≡ Some e → found_fault b o ≡ Some e
+unfolding first_fault
+header_fails b o e h = failed_first (header_conditions b) (all_rows_checks b o (count_of b)) e h
 
-pub rows_fail : (b : List ℕ) (o : Options) (count : ℕ) (e : Error) → count ≡ count_of b → first_failure (header_conditions b) ≡ None → (e ≡ NoMemory) ⊎ (first_failure (all_rows_conditions b o count) ≡ Some e) → (e ≡ NoMemory) ⊎ (mo_fault b o ≡ Some e)
-unfolding mo_fault
+pub rows_fail : (b : List ℕ) (o : Options) (count : ℕ) (e : Error) → count ≡ count_of b → first_failure (header_conditions b) ≡ None → (e ≡ NoMemory) ⊎ (first_failure (all_rows_checks b o count) ≡ Some e) → (e ≡ NoMemory) ⊎ (found_fault b o ≡ Some e)
+unfolding first_fault
 rows_fail b o count e k passed (inl memory) = inl memory
-rows_fail b o count e k passed (inr h) = inr (passed_first (header_conditions b) (all_rows_conditions b o (count_of b)) passed ∙ (rw k at h))
+rows_fail b o count e k passed (inr h) = inr (passed_first (header_conditions b) (all_rows_checks b o (count_of b)) passed ∙ (rw k at h))
 
-pub all_pass : (b : List ℕ) (o : Options) (count : ℕ) → count ≡ count_of b → first_failure (header_conditions b) ≡ None → first_failure (all_rows_conditions b o count) ≡ None → mo_fault b o ≡ None
-unfolding mo_fault
-all_pass b o count k passed h = passed_first (header_conditions b) (all_rows_conditions b o (count_of b)) passed ∙ (rw k at h)
+pub all_pass : (b : List ℕ) (o : Options) (count : ℕ) → count ≡ count_of b → first_failure (header_conditions b) ≡ None → first_failure (all_rows_checks b o count) ≡ None → found_fault b o ≡ None
+unfolding first_fault
+all_pass b o count k passed h = passed_first (header_conditions b) (all_rows_checks b o (count_of b)) passed ∙ (rw k at h)
 
-pub only_memory : (b : List ℕ) (o : Options) (c : Messages) (e : Error) → entries b o c → (e ≡ NoMemory) ⊎ (mo_fault b o ≡ Some e) → e ≡ NoMemory
+pub only_memory : (b : List ℕ) (o : Options) (c : Messages) (e : Error) → entries b o c → (e ≡ NoMemory) ⊎ (found_fault b o ≡ Some e) → e ≡ NoMemory
 only_memory b o c e h (inl memory) = memory
 only_memory b o c e h (inr fault) = let none = (is_meaning b o c h).0 in absurd cc
 
-pub is_fault : (b : List ℕ) (o : Options) (fault e : Error) → mo_fault b o ≡ Some fault → (e ≡ NoMemory) ⊎ (mo_fault b o ≡ Some e) → (e ≡ NoMemory) ⊎ (e ≡ fault)
-is_fault b o fault e h (inl memory) = inl memory
-is_fault b o fault e h (inr other) = inr cc
+-- ---- what is found is what is wrong
+
+-- a rule is read of the metadata exactly where there is one
+rule_decided : (o : Options) (fields : List Field)
+    → Decides (is_some (rule_of o fields)) ((rule : Rule) × IsRule o fields rule)
+rule_decided o fields = (
+  λ h. let r = some_passes (rule_of o fields) h in (r.0, rule_by-holds o.forced (plural_of fields) r.0 r.1),
+  λ r. rw (rule_by-is o.forced (plural_of fields) r.0 r.1) refl,
+)
+
+-- what the reader finds is wrong
+pub fault_found : (b : List ℕ) (o : Options) (f : Option Error) → found_fault b o ≡ f → mo_fault b o f
+fault_found b o f h = record { ruled = is_ruled o (fields_in_file b o); decided = rule_decided o (unwrap_or (fields_in_file b o) []); first = h }
+
+-- what is wrong is what the reader finds
+pub found_is : (b : List ℕ) (o : Options) (f : Option Error) → mo_fault b o f → found_fault b o ≡ f
+found_is b o f h = ap (first_fault b o) (same_from_decides (is_ruled o (fields_in_file b o)) h.ruled (rule_decided o (unwrap_or (fields_in_file b o) [])) h.decided) ∙ h.first

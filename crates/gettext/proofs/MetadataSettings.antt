@@ -11,7 +11,8 @@ use Rattle.gettext.specs.Rule.{rule_shown}
 use Rattle.gettext.specs.Metadata.{Field, value_of}
 use Rattle.gettext.specs.Messages.{Rule, Default, Function}
 use Rattle.gettext.specs.Mo.{first_encoding, encoding_by, named_encoding}
-use Rattle.gettext.specs.Faults.{rule_by, rule_of, metadata_conditions}
+use Rattle.gettext.specs.Faults.{metadata_conditions}
+use Rattle.gettext.specs.Checks.{rule_by, rule_of, metadata_checks}
 use Rattle.gettext.specs.Settings.{IsSettings, plurals_by}
 
 -- ---- without metadata
@@ -40,19 +41,19 @@ no_metadata o s e r p = record {
 -- ---- the conditions of metadata
 
 module _ (o : Options) (found : Option (List Field)) where
-  pub is_malformed : found ≡ None → first_failure (metadata_conditions o found) ≡ Some MalformedMetadata
+  pub is_malformed : found ≡ None → first_failure (metadata_checks o found) ≡ Some MalformedMetadata
   unfolding metadata_conditions
   is_malformed e = rw e refl
 
   module _ (fields : List Field) (is : found ≡ Some fields) where
-    pub is_unknown : named_encoding o fields ≡ None → first_failure (metadata_conditions o found) ≡ Some UnknownEncoding
+    pub is_unknown : named_encoding o fields ≡ None → first_failure (metadata_checks o found) ≡ Some UnknownEncoding
     unfolding metadata_conditions
     is_unknown n = rw (is, n) refl
 
-    pub is_no_rule : (e : Encoding) → named_encoding o fields ≡ Some e → rule_of o fields ≡ None → first_failure (metadata_conditions o found) ≡ Some PluralParsing
+    pub is_no_rule : (e : Encoding) → named_encoding o fields ≡ Some e → rule_of o fields ≡ None → first_failure (metadata_checks o found) ≡ Some PluralParsing
     unfolding metadata_conditions
     is_no_rule e n r = rw (is, n, r) refl
 
-    pub holds : (e : Encoding) (rule : Rule) → named_encoding o fields ≡ Some e → rule_of o fields ≡ Some rule → first_failure (metadata_conditions o found) ≡ None
+    pub holds : (e : Encoding) (rule : Rule) → named_encoding o fields ≡ Some e → rule_of o fields ≡ Some rule → first_failure (metadata_checks o found) ≡ None
     unfolding metadata_conditions
     holds e rule n r = rw (is, n, r) refl

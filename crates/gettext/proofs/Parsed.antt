@@ -1,7 +1,5 @@
 -- What `parse_bytes` and `parse` answer, of the table and of the catalog around it.
 use Rattle.std.proofs.Common.{◌≡◌, ℕ, ◌<◌, ◌≤◌, Bool, List, length, Option, Some, None, Ok, Err, refl, subst, ◌⊎◌, inl, inr, arith}
-use Rattle.std.proofs.lemmas.Bool.{le-leb}
-use Rattle.std.proofs.lemmas.Bool.Decides.{nat_tests}
 use Rattle.std.specs.Prelude.{IfSome}
 use Rattle.gettext.specs.declared.error.Error.{Error}
 use Rattle.gettext.specs.declared.error.Error.TheVariants.{Io, NoMemory, TooLong}
@@ -13,27 +11,33 @@ use Rattle.gettext.specs.Options.{Options}
 use Rattle.gettext.specs.Messages.{Messages, StandsFor}
 use Rattle.gettext.specs.Mo.{IsInUtf8, entries}
 use Rattle.gettext.specs.Faults.{mo_fault}
+use Rattle.gettext.specs.Checks.{found_fault}
 use Rattle.gettext.specs.Parse.{IsReadFault, MeansBytes, ParsesBytes, ParsesSource, most_bytes, source_fault}
 use Rattle.gettext.specs.Table.{Held, messages_of}
 use Rattle.gettext.proofs.Faults.{is_mo_fault}
-use Rattle.gettext.proofs.Meaning.{meaning, has_meaning, only_memory}
+use Rattle.gettext.proofs.Meaning.{meaning, has_meaning, only_memory, fault_found, found_is}
 
 -- ---- bytes
 
+-- an answer that the reader finds is want of memory, or what is wrong
+exactly : {b : List ℕ} {o : Options} (e : Error) → (e ≡ NoMemory) ⊎ (found_fault b o ≡ Some e) → (e ≡ NoMemory) ⊎ mo_fault b o (Some e)
+exactly e (inl memory) = inl memory
+exactly {b = b} {o = o} e (inr fault) = inr (fault_found b o (Some e) fault)
+
 module _ {T : Type 0} (held : T → Held) (b : List ℕ) (o : Options) where
   -- the bytes are refused
-  pub bytes_refused : (e : Error) → (e ≡ NoMemory) ⊎ (mo_fault b o ≡ Some e) → ParsesBytes (Err e) held b o
-  bytes_refused e h = record { read = λ c m. only_memory b o c e m h; ok = tt; err = λ fault f. by_cause fault f h; exact = h; buffer = tt } where
-    by_cause : (fault : Error) → mo_fault b o ≡ Some fault → (e ≡ NoMemory) ⊎ (mo_fault b o ≡ Some e) → (e ≡ NoMemory) ⊎ (e ≡ fault)
+  pub bytes_refused : (e : Error) → (e ≡ NoMemory) ⊎ (found_fault b o ≡ Some e) → ParsesBytes (Err e) held b o
+  bytes_refused e h = record { read = λ c m. only_memory b o c e m h; ok = tt; err = λ fault f. by_cause fault (found_is b o (Some fault) f) h; exact = exactly e h; buffer = tt } where
+    by_cause : (fault : Error) → found_fault b o ≡ Some fault → (e ≡ NoMemory) ⊎ (found_fault b o ≡ Some e) → (e ≡ NoMemory) ⊎ (e ≡ fault)
     by_cause fault f (inl memory) = inl memory
     by_cause fault f (inr is) = inr cc
 
   -- the bytes are read
-  pub bytes_read : (t : T) → mo_fault b o ≡ None → ((c : Messages) → entries b o c → StandsFor (messages_of (held t)) c)
+  pub bytes_read : (t : T) → found_fault b o ≡ None → ((c : Messages) → entries b o c → StandsFor (messages_of (held t)) c)
       → (IsInUtf8 b o → (held t).buffer ≡ b) → ParsesBytes (Ok t) held b o
   bytes_read t none stands plain =
       let m = has_meaning b o none in
-      record { read = stands; ok = (meaning b o, m, stands (meaning b o) m); err = λ fault f. absurd cc; exact = none; buffer = plain }
+      record { read = stands; ok = (meaning b o, m, stands (meaning b o) m); err = λ fault f. let some = found_is b o (Some fault) f in absurd cc; exact = fault_found b o None none; buffer = plain }
 
 -- what holds of a table holds of what is around it
 pub bytes_around : {T U : Type 0} (held : T → Held) (around : U → Held) (b : List ℕ) (o : Options) (t : T) (u : U) → held t ≡ around u
@@ -60,10 +64,7 @@ told : (l : Option (List ℕ)) (bytes : List ℕ) → IfSome l (λ t. bytes ≡ 
 told None bytes is P p = tt
 told (Some t) bytes is P p = subst P is p
 
--- more bytes than are read
-too_long : (bytes : List ℕ) (o : Options) → most_bytes < length bytes → source_fault bytes o ≡ Some TooLong
-too_long bytes o more = grind (arith, nat_tests)
-
+-- what holds of texts that are too long holds of one that may be there
 too_many : (l : Option (List ℕ)) (P Q : List ℕ → Type 0) → IfSome l P → ((t : List ℕ) → P t → Q t) → IfSome l Q
 too_many None P Q h f = tt
 too_many (Some t) P Q h f = f t h
@@ -85,7 +86,7 @@ module _ {S T : Type 0} (left : S → Option (List ℕ)) (ended : S → Bool) (f
   source_unread reading.TooLong more same later = record {
     read = too_many (left old) (λ t. most_bytes < length t) _ more (λ t m c le e. absurd (omega arith));
     ok = tt;
-    exact = too_many (left old) (λ t. most_bytes < length t) _ more (λ t m. inr (too_long t o m));
+    exact = too_many (left old) (λ t. most_bytes < length t) _ more (λ t m. inr (inr (m, refl)));
     buffer = tt;
     io = λ is. absurd cc;
     later = later;
@@ -104,20 +105,20 @@ module _ {S T : Type 0} (left : S → Option (List ℕ)) (ended : S → Bool) (f
   }
 
   module _ (bytes : List ℕ) (within : length bytes ≤ most_bytes) (all : IfSome (left old) (λ t. bytes ≡ t)) (end : IsReadToEnd left ended faults old new) where
-    not_io : (e : Error) → (e ≡ NoMemory) ⊎ (mo_fault bytes o ≡ Some e) → e ≡ Io → ⊥
+    not_io : (e : Error) → (e ≡ NoMemory) ⊎ (found_fault bytes o ≡ Some e) → e ≡ Io → ⊥
     not_io e (inl memory) io = absurd cc
-    not_io e (inr fault) io = rw io at (is_mo_fault bytes o e fault)
+    not_io e (inr fault) io = rw io at (is_mo_fault bytes o e (fault_found bytes o (Some e) fault))
 
-    at_fault : (e : Error) → (e ≡ NoMemory) ⊎ (mo_fault bytes o ≡ Some e) → IsReadFault e ⊎ (source_fault bytes o ≡ Some e)
+    at_fault : (e : Error) → (e ≡ NoMemory) ⊎ mo_fault bytes o (Some e) → IsReadFault e ⊎ source_fault bytes o (Some e)
     at_fault e (inl memory) = inl (rw memory tt)
-    at_fault e (inr fault) = inr (rw (le-leb (length bytes) most_bytes within) fault)
+    at_fault e (inr fault) = inr (inl (within, fault))
 
     -- the bytes are refused
-    pub source_refused : (e : Error) → (e ≡ NoMemory) ⊎ (mo_fault bytes o ≡ Some e) → ParsesSource left ended faults old new (Err e) held o
+    pub source_refused : (e : Error) → (e ≡ NoMemory) ⊎ (found_fault bytes o ≡ Some e) → ParsesSource left ended faults old new (Err e) held o
     source_refused e h = record {
       read = told (left old) bytes all (λ t. (c : Messages) → length t ≤ most_bytes → entries t o c → IsReadFault e) (λ c le m. let memory = only_memory bytes o c e m h in rw memory tt);
       ok = tt;
-      exact = told (left old) bytes all (λ t. IsReadFault e ⊎ (source_fault t o ≡ Some e)) (at_fault e h);
+      exact = told (left old) bytes all (λ t. IsReadFault e ⊎ source_fault t o (Some e)) (at_fault e (exactly e h));
       buffer = tt;
       io = λ io. absurd (not_io e h io);
       later = omega (arith, end.no_fault);
@@ -126,14 +127,14 @@ module _ {S T : Type 0} (left : S → Option (List ℕ)) (ended : S → Bool) (f
     }
 
     -- the bytes are read
-    pub source_read : (t : T) → mo_fault bytes o ≡ None → ((c : Messages) → entries bytes o c → StandsFor (messages_of (held t)) c)
+    pub source_read : (t : T) → found_fault bytes o ≡ None → ((c : Messages) → entries bytes o c → StandsFor (messages_of (held t)) c)
         → (IsInUtf8 bytes o → (held t).buffer ≡ bytes) → ParsesSource left ended faults old new (Ok t) held o
     source_read t none stands plain =
         let m = has_meaning bytes o none in
         record {
           read = told (left old) bytes all (λ b. (c : Messages) → length b ≤ most_bytes → entries b o c → StandsFor (messages_of (held t)) c) (λ c le e. stands c e);
           ok = told (left old) bytes all (λ b. (length b ≤ most_bytes) × MeansBytes b o (held t)) (within, (meaning bytes o, m, stands (meaning bytes o) m));
-          exact = told (left old) bytes all (λ b. source_fault b o ≡ None) (rw (le-leb (length bytes) most_bytes within) none);
+          exact = told (left old) bytes all (λ b. source_fault b o None) (inl (within, fault_found bytes o None none));
           buffer = told (left old) bytes all (λ b. IsInUtf8 b o → (held t).buffer ≡ b) plain;
           io = tt;
           later = omega (arith, end.no_fault);

@@ -1,5 +1,5 @@
 -- What `parse_bytes` and `parse` answer. A result holds the entries of a catalog, or an error.
-use Rattle.std.specs.Prelude.{◌≡◌, ◌⊎◌, ℕ, ◌≤◌, Bool, List, length, Option, Some, None, Result, MatchResult, IfOk, IfErr, IfSome, IsErrAnd, IsErrOf, nat_le, if◌then◌else◌}
+use Rattle.std.specs.Prelude.{◌≡◌, ◌⊎◌, ℕ, ◌≤◌, ◌<◌, Bool, List, length, Option, Some, None, Result, MatchResult, IfOk, IfErr, IfSome, IsErrAnd, IsErrOf}
 pub use Rattle.reading.specs.Reading.{most_bytes}
 use Rattle.reading.specs.Reading.{IsReadToEnd}
 use Rattle.writeable_core.specs.Sink.{Rose}
@@ -11,9 +11,11 @@ use Rattle.gettext.specs.Mo.{entries, IsInUtf8}
 use Rattle.gettext.specs.Faults.{mo_fault}
 use Rattle.gettext.specs.Table.{Held, messages_of}
 
--- what is wrong with the bytes of a source: they are too many, or no file
-abbrev pub source_fault : List ℕ → Options → Option Error
-source_fault bytes o = if nat_le (length bytes) most_bytes then mo_fault bytes o else Some TooLong
+-- what is wrong with the bytes of a source, if anything: they are too many, or `mo_fault`
+abbrev pub source_fault : List ℕ → Options → Option Error → Type 0
+source_fault bytes o fault =
+    ((length bytes ≤ most_bytes) × mo_fault bytes o fault)
+    ⊎ ((most_bytes < length bytes) × (fault ≡ Some TooLong))
 
 -- the errors that say nothing of the bytes
 abbrev pub IsReadFault : Error → Type 0
@@ -38,8 +40,8 @@ pub record ParsesBytes {T : Type 0} (result : Result T Error) (held : T → Held
   pub read : (c : Messages) → entries bytes o c
       → MatchResult result (λ t. StandsFor (messages_of (held t)) c) (λ e. e ≡ NoMemory)
   pub ok : IfOk result (λ t. MeansBytes bytes o (held t))
-  pub err : (fault : Error) → mo_fault bytes o ≡ Some fault → IsErrAnd result (λ e. (e ≡ NoMemory) ⊎ (e ≡ fault))
-  pub exact : MatchResult result (λ t. mo_fault bytes o ≡ None) (λ e. (e ≡ NoMemory) ⊎ (mo_fault bytes o ≡ Some e))
+  pub err : (fault : Error) → mo_fault bytes o (Some fault) → IsErrAnd result (λ e. (e ≡ NoMemory) ⊎ (e ≡ fault))
+  pub exact : MatchResult result (λ t. mo_fault bytes o None) (λ e. (e ≡ NoMemory) ⊎ mo_fault bytes o (Some e))
   pub buffer : IfOk result (λ t. IsInUtf8 bytes o → (held t).buffer ≡ bytes)
 
 -- The same of a source that tells its bytes (`read`, `ok`, `exact`, `buffer`). A fault of the source comes where its count
@@ -50,8 +52,8 @@ pub record ParsesSource {S T : Type 0} (left : S → Option (List ℕ)) (ended :
   pub read : IfSome (left old) (λ bytes. (c : Messages) → length bytes ≤ most_bytes → entries bytes o c
       → MatchResult result (λ t. StandsFor (messages_of (held t)) c) IsReadFault)
   pub ok : IfOk result (λ t. IfSome (left old) (λ bytes. (length bytes ≤ most_bytes) × MeansBytes bytes o (held t)))
-  pub exact : IfSome (left old) (λ bytes. MatchResult result (λ t. source_fault bytes o ≡ None)
-      (λ e. IsReadFault e ⊎ (source_fault bytes o ≡ Some e)))
+  pub exact : IfSome (left old) (λ bytes. MatchResult result (λ t. source_fault bytes o None)
+      (λ e. IsReadFault e ⊎ source_fault bytes o (Some e)))
   pub buffer : IfOk result (λ t. IfSome (left old) (λ bytes. IsInUtf8 bytes o → (held t).buffer ≡ bytes))
   pub io : IfErr result (λ e. e ≡ Io → Rose (faults old) (faults new))
   pub later : faults old ≤ faults new

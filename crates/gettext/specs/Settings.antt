@@ -8,7 +8,7 @@ use Rattle.gettext.specs.Rule.{rule_shown}
 use Rattle.gettext.specs.Metadata.{Field}
 use Rattle.gettext.specs.Messages.{plurals_among}
 use Rattle.gettext.specs.Mo.{named_encoding}
-use Rattle.gettext.specs.Faults.{rule_of}
+use Rattle.gettext.specs.Checks.{rule_of}
 
 -- what bounds the numbers of forms, unless a function is forced
 abbrev pub plurals_by : Bool → List Field → Option ℕ

@@ -185,11 +185,11 @@ fn own_words<'a>(msg_id: &'a str, msg_id_plural: &'a str, n: u64) -> &'a str
     if n == 1 { msg_id } else { msg_id_plural }
 }
 
-/// A file has no fault exactly where it means something, and then it means one thing: what stands
-/// for that gives each form alike.
+/// A file has one fault, or none: none exactly where it means something, and then it means one
+/// thing, and what stands for that gives each form alike.
 pub fn one_meaning()
     ensures faultless { (b : List ℕ) (o : Options)
-        → (mo_fault b o ≡ None) ↔ ((c : Messages) × entries b o c) }
+        → mo_fault b o None ↔ ((c : Messages) × entries b o c) }
     ensures unique { (b : List ℕ) (o : Options) (c d : Messages) → entries b o c → entries b o d
         → c ≡ d }
     ensures alike { (b : List ℕ) (o : Options) (c kept : Messages) → entries b o c
@@ -197,5 +197,8 @@ pub fn one_meaning()
         → (given : Option ℕ) (key : List ℕ) (n : ℕ) → form kept given key n ≡ form c given key n }
     ensures parts { (b : List ℕ) (e : Encoding) (i : ℕ) (m : Message) → IsRow b e i m
         → IsKeyOf e (head_of (original_of b i)) m.key }
-    ensures faults { (b : List ℕ) (o : Options) (e : Error) → mo_fault b o ≡ Some e → IsMoFault e }
+    ensures fault { (b : List ℕ) (o : Options) → (f : Option Error) × mo_fault b o f }
+    ensures one_fault { (b : List ℕ) (o : Options) (e f : Option Error) → mo_fault b o e
+        → mo_fault b o f → e ≡ f }
+    ensures faults { (b : List ℕ) (o : Options) (e : Error) → mo_fault b o (Some e) → IsMoFault e }
 {}

@@ -5,7 +5,7 @@ ghost use Rattle.writeable_core.specs.FirstFailure.{first_failure};
 ghost use Rattle.gettext.specs.declared.error.Error.{Error};
 ghost use Rattle.gettext.specs.Errors.{error_of};
 ghost use Rattle.gettext.specs.Files.{AreFileRows, IsFile, buffer_of, is_in_utf8};
-ghost use Rattle.gettext.specs.Faults.{all_rows_conditions, mo_fault};
+ghost use Rattle.gettext.specs.Checks.{all_rows_checks, found_fault};
 ghost use Rattle.gettext.specs.Reader.{GivesInMemory, IsHeader};
 ghost use Rattle.gettext.specs.Parse.{ParsesBytes, ParsesSource};
 
@@ -88,7 +88,7 @@ struct FileRows {
 
 /// Reads a file.
 fn read(alloc: Global, bytes: &[u8], options: Options) -> Result<File, Error>
-    ensures { GivesInMemory (IsFile bytes.now options) result (mo_fault bytes.now options) }
+    ensures { GivesInMemory (IsFile bytes.now options) result (found_fault bytes.now options) }
 {
     let header = header_of(bytes)?;
     let FileRows { rows, settings } = rows_of(alloc, bytes, header, options)?;
@@ -130,7 +130,7 @@ fn texts_or_copy(alloc: Global, texts: Option<Vec<u8>>, bytes: &[u8]) -> Result<
 fn rows_of(alloc: Global, bytes: &[u8], header: Header, options: Options) -> Result<FileRows, Error>
     requires { IsHeader bytes.now header }
     ensures { GivesInMemory (λ r. AreFileRows bytes.now options header.count r.rows.items r.settings) result
-        (first_failure (all_rows_conditions bytes.now options header.count)) }
+        (first_failure (all_rows_checks bytes.now options header.count)) }
 {
     let mut rows = Vec::new(alloc);
     if header.count == 0 {

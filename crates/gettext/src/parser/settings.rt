@@ -6,7 +6,7 @@ ghost use Rattle.writeable_core.specs.FirstFailure.{first_failure};
 ghost use Rattle.gettext.specs.declared.error.Error.TheVariants.{PluralParsing, UnknownEncoding};
 ghost use Rattle.gettext.specs.Metadata.{fields_of, charset_in, gives};
 ghost use Rattle.gettext.specs.Mo.{first_encoding, encoding_by, fields_in_file};
-ghost use Rattle.gettext.specs.Faults.{metadata_conditions, rule_by};
+ghost use Rattle.gettext.specs.Checks.{metadata_checks, rule_by};
 ghost use Rattle.gettext.specs.Reader.{GivesInMemory, IsReadRow};
 ghost use Rattle.gettext.specs.Rule.{rule_shown};
 ghost use Rattle.gettext.specs.Settings.{IsSettings, Answers};
@@ -56,7 +56,7 @@ impl Settings {
     ) -> Result<Settings, Error>
         requires { IsReadRow bytes.now (first_encoding options) 0 row }
         ensures { GivesInMemory (IsSettings options (unwrap_or (fields_in_file bytes.now options) [])) result
-            (first_failure (metadata_conditions options (fields_in_file bytes.now options))) }
+            (first_failure (metadata_checks options (fields_in_file bytes.now options))) }
     {
         if has_id(bytes_of(bytes, row.key)) {
             return Ok(Settings::plain(options));
@@ -81,7 +81,7 @@ impl Settings {
     #[tactic(auto, unfolding(crate::specs::Faults::metadata_conditions))]
     fn of_text(alloc: Global, text: &str, options: Options) -> Result<Settings, Error>
         ensures { GivesInMemory (IsSettings options (unwrap_or (fields_of text.now) [])) result
-            (first_failure (metadata_conditions options (fields_of text.now))) }
+            (first_failure (metadata_checks options (fields_of text.now))) }
     {
         let metadata = parse_metadata(alloc, text)?;
         let encoding = named_encoding(options, &metadata)?;
