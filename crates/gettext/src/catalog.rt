@@ -4,11 +4,13 @@
 
 mod table;
 
-ghost use Rattle.std.specs.Prelude.{◌≡◌, ℕ, ◌==◌, ◌↔◌, List, [], Option, Some, None, Result, if◌then◌else◌};
+ghost use Rattle.std.specs.Prelude.{◌≡◌, ℕ, ◌==◌, ◌↔◌, List, [], Option, Some, None, Result};
+ghost use Rattle.std.specs.Prelude.{if◌then◌else◌};
 ghost use Rattle.std.specs.Option.{option_map};
 ghost use Rattle.std.specs.Str.{chars};
 ghost use Rattle.gettext.specs.declared.error.Error.{Error};
-ghost use Rattle.gettext.specs.Messages.{Message, Messages, StandsFor, Default, key_of, key_asked, numbered, form, count_of_forms, own_words, text_or};
+ghost use Rattle.gettext.specs.Messages.{Message, Messages, StandsFor, Default, key_of, key_asked};
+ghost use Rattle.gettext.specs.Messages.{numbered, form, count_of_forms, own_words, text_or};
 ghost use Rattle.gettext.specs.declared.encoding.Encoding.{Encoding};
 ghost use Rattle.gettext.specs.Layout.{head_of, original_of};
 ghost use Rattle.gettext.specs.Mo.{IsRow, entries};
@@ -63,7 +65,8 @@ impl Catalog {
         ParseOptions::new().parse(alloc, source)
     }
 
-    /// The messages of an MO file (GNU gettext manual, section 10.3). Of equal keys the last row counts.
+    /// The messages of an MO file (GNU gettext manual, section 10.3). Of equal keys the last row
+    /// counts.
     pub fn parse_bytes(alloc: Global, bytes: &[u8]) -> Result<Catalog, Error>
         ensures { ParsesBytes result (λ catalog. catalog.entries) bytes.now plain_options }
     {
@@ -72,7 +75,8 @@ impl Catalog {
 }
 
 impl<P: FormRule> Catalog<P> {
-    /// The form for `n` of the message with that context and id. Nothing is joined and nothing copied.
+    /// The form for `n` of the message with that context and id. Nothing is joined and nothing
+    /// copied.
     pub fn find(&self, context: Option<&str>, id: &str, n: u64) -> Option<Form<'_>>
         ensures found { (c : Messages) → StandsFor (messages_of self.now.entries) c
             → (given : Option ℕ) × P.answers self.now.plural n given

@@ -129,7 +129,8 @@ fn texts_or_copy(alloc: Global, texts: Option<Vec<u8>>, bytes: &[u8]) -> Result<
 
 fn rows_of(alloc: Global, bytes: &[u8], header: Header, options: Options) -> Result<FileRows, Error>
     requires { IsHeader bytes.now header }
-    ensures { GivesInMemory (λ r. AreFileRows bytes.now options header.count r.rows.items r.settings) result
+    ensures { GivesInMemory
+        (λ r. AreFileRows bytes.now options header.count r.rows.items r.settings) result
         (first_failure (all_rows_checks bytes.now options header.count)) }
 {
     let mut rows = Vec::new(alloc);
@@ -146,7 +147,8 @@ fn rows_of(alloc: Global, bytes: &[u8], header: Header, options: Options) -> Res
     Ok(FileRows { rows, settings })
 }
 
-/// Whether each of so many rows is in UTF-8, given the encoding of the first and that of the others.
+/// Whether each of so many rows is in UTF-8, given the encoding of the first and that of the
+/// others.
 fn is_in_utf8(count: usize, first: Encoding, later: Encoding) -> bool
     ensures { result ≡ is_in_utf8 count first later }
 {

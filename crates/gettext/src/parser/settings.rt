@@ -55,7 +55,8 @@ impl Settings {
         options: Options,
     ) -> Result<Settings, Error>
         requires { IsReadRow bytes.now (first_encoding options) 0 row }
-        ensures { GivesInMemory (IsSettings options (unwrap_or (fields_in_file bytes.now options) [])) result
+        ensures { GivesInMemory
+            (IsSettings options (unwrap_or (fields_in_file bytes.now options) [])) result
             (first_failure (metadata_checks options (fields_in_file bytes.now options))) }
     {
         if has_id(bytes_of(bytes, row.key)) {
@@ -104,7 +105,8 @@ impl Settings {
 
 /// The encoding that is forced, else the one that the charset names, else UTF-8.
 fn named_encoding(options: Options, metadata: &MetadataMap<'_>) -> Result<Encoding, Error>
-    ensures { Answers (λ e. e) result (encoding_by options.encoding (option_and_then charset_in (gives metadata.now (codes "Content-Type")))) UnknownEncoding }
+    ensures { Answers (λ e. e) result (encoding_by options.encoding
+        (option_and_then charset_in (gives metadata.now (codes "Content-Type")))) UnknownEncoding }
 {
     if let Some(forced) = options.encoding {
         return Ok(forced);
@@ -117,7 +119,8 @@ fn named_encoding(options: Options, metadata: &MetadataMap<'_>) -> Result<Encodi
 
 /// The expression, if there is one, else the default rule.
 fn rule_of(alloc: Global, expression: Option<&str>) -> Result<PluralRule, Error>
-    ensures { Answers rule_shown result (rule_by false (option_map (λ s. s.now) expression.entry)) PluralParsing }
+    ensures { Answers rule_shown result
+        (rule_by false (option_map (λ s. s.now) expression.entry)) PluralParsing }
 {
     match expression {
         Some(expression) => Ok(PluralRule::Expr(Ast::parse(alloc, expression)?)),

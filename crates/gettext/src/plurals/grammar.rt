@@ -1,11 +1,13 @@
 //! The grammar of plural expressions, level by level.
 
-ghost use Rattle.std.specs.Prelude.{◌≡◌, ◌+◌, ◌-◌, ◌<◌, ◌≤◌, ◌^◌, max, MatchResult, IfOk, IfSome, None};
+ghost use Rattle.std.specs.Prelude.{◌≡◌, ◌+◌, ◌-◌, ◌<◌, ◌≤◌, ◌^◌, max, MatchResult, IfOk, IfSome};
+ghost use Rattle.std.specs.Prelude.{None};
 ghost use Rattle.std.specs.Option.{option_map};
 ghost use Rattle.gettext.specs.declared.error.Error.TheVariants.{NoMemory};
 ghost use Rattle.gettext.specs.declared.plurals.grammar.Level.TheVariants as Level;
 ghost use Rattle.gettext.specs.Grammar.{rank, tighter, level_of};
-ghost use Rattle.gettext.specs.Parsing.{IsParsed, found_of, parse, leaf_at, is_mark, after, operator_at, closed, negated, joined, chosen, IsBinary};
+ghost use Rattle.gettext.specs.Parsing.{IsParsed, found_of, parse, leaf_at, is_mark, after};
+ghost use Rattle.gettext.specs.Parsing.{operator_at, closed, negated, joined, chosen, IsBinary};
 
 use super::expression::{Ast, Operator};
 use super::tokens::Token;
@@ -246,7 +248,8 @@ fn closed<'a>(inside: Part<'a>, rest: &'a [Token]) -> Part<'a>
 
 fn negated(alloc: Global, operand: Part<'_>) -> Result<Part<'_>, Error>
     requires { operand.height + 1 < 2 ^ 32 }
-    ensures { MatchResult result (λ p. found_of p ≡ negated (found_of operand.entry)) (λ e. e ≡ NoMemory) }
+    ensures { MatchResult result (λ p. found_of p ≡ negated (found_of operand.entry))
+        (λ e. e ≡ NoMemory) }
 {
     Ok(Part {
         tree: Ast::Not(Box::new(alloc, operand.tree)?),
@@ -262,7 +265,9 @@ fn joined<'a>(
     right: Part<'a>,
 ) -> Result<Part<'a>, Error>
     requires { max left.height right.height + 1 < 2 ^ 32 }
-    ensures { MatchResult result (λ p. found_of p ≡ joined operator (found_of left.entry) (found_of right.entry)) (λ e. e ≡ NoMemory) }
+    ensures { MatchResult result
+        (λ p. found_of p ≡ joined operator (found_of left.entry) (found_of right.entry))
+        (λ e. e ≡ NoMemory) }
 {
     Ok(Part {
         height: left.height.max(right.height) + 1,
@@ -282,7 +287,10 @@ fn chosen<'a>(
     second: Part<'a>,
 ) -> Result<Part<'a>, Error>
     requires { max condition.height (max first.height second.height) + 1 < 2 ^ 32 }
-    ensures { MatchResult result (λ p. found_of p ≡ chosen (found_of condition.entry) (found_of first.entry) (found_of second.entry)) (λ e. e ≡ NoMemory) }
+    ensures { MatchResult result
+        (λ p. found_of p
+        ≡ chosen (found_of condition.entry) (found_of first.entry) (found_of second.entry))
+        (λ e. e ≡ NoMemory) }
 {
     Ok(Part {
         height: condition.height.max(first.height.max(second.height)) + 1,

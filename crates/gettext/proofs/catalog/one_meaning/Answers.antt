@@ -7,7 +7,11 @@ use Rattle.gettext.proofs.Meaning.{meaning, has_meaning, is_meaning, fault_found
 use Rattle.gettext.proofs.catalog.one_meaning.Goals as goal
 
 pub returns-clause-faultless : goal.returns-clause-faultless
-returns-clause-faultless c = λ b o. ((λ none. (meaning b o, has_meaning b o (found_is b o _ none))), (λ h. fault_found b o _ (is_meaning b o h.0 h.1).0))
+returns-clause-faultless c =
+    λ b o. (
+      (λ none. (meaning b o, has_meaning b o (found_is b o _ none))),
+      (λ h. fault_found b o _ (is_meaning b o h.0 h.1).0),
+    )
 
 pub returns-clause-unique : goal.returns-clause-unique
 returns-clause-unique c = λ b o x y h k. (is_meaning b o x h).1 ∙ sym (is_meaning b o y k).1

@@ -9,4 +9,5 @@ returns-in_err-entries-clause-read g c =
     rw (p.1, p.2) (refused_around _ _ _ _ _ (rw c.options.ensures at c.in_err-entries.ensures))
 
 pub returns-clause-read : goal.returns-clause-read
-returns-clause-read g c = bytes_around _ _ _ _ c.in_ok-entries.entries _ refl (rw c.options.ensures at c.in_ok-entries.ensures)
+returns-clause-read g c = bytes_around _ _ _ _ c.in_ok-entries.entries _ refl
+    (rw c.options.ensures at c.in_ok-entries.ensures)

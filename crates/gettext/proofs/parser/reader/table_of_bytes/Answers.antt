@@ -11,11 +11,13 @@ returns-in_err-texts c =
 
 pub returns-in_err-buffer : goal.returns-in_err-buffer
 returns-in_err-buffer c =
-    let p = err_from_is_err_and c.from_residual-in_err-buffer.result c.from_residual-in_err-buffer.ensures.1 in
+    let p = err_from_is_err_and c.from_residual-in_err-buffer.result
+    c.from_residual-in_err-buffer.ensures.1 in
     rw (p.1, p.2) (bytes_refused _ c.args.bytes.now c.args.options _ (inl refl))
 
 pub returns : goal.returns
 unfolding held
 returns c =
     rw (c.new.ensures, c.in_ok-buffer.ensures)
-    (bytes_read _ c.args.bytes.now c.args.options _ c.in_ok-texts.ensures.1 c.in_ok-texts.ensures.0.stands (λ u. rw (c.in_ok-texts.ensures.0.plain u) refl))
+    (bytes_read _ c.args.bytes.now c.args.options _ c.in_ok-texts.ensures.1
+    c.in_ok-texts.ensures.0.stands (λ u. rw (c.in_ok-texts.ensures.0.plain u) refl))
