@@ -6,12 +6,15 @@ use Rattle.std.specs.Int.{w32, from_le_bytes, from_be_bytes}
 use Rattle.std.specs.Option.{unwrap_or}
 use Rattle.std.specs.List.{list_any, position_or_len}
 use Rattle.std.specs.Prelude.{◌==◌}
-use Rattle.std.proofs.lemmas.Bool.{cases_lt, lt-ltb, le-ltb, eq-eqb, ne_eqb, eqb-true, eqb-false}
+use Rattle.std.proofs.lemmas.Bool.{cases_lt, lt-ltb, le-ltb, ne_eqb}
 use Rattle.std.proofs.lemmas.List.Folds.{length-prefix_len}
 use Rattle.std.proofs.lemmas.List.Sums.{prefix_len-le-length}
-use Rattle.std.proofs.lemmas.List.{get_or-take, get_or-drop, length-take}
-use Rattle.writeable_core.specs.FirstFailure.{first_failure}
-use Rattle.writeable_core.specs.FirstFailureLaws.{failed_first, passed_first}
+use Rattle.std.proofs.lemmas.List.{get_or-take, get_or-drop}
+use Rattle.writeable_core.specs.FirstFailure.{Condition, first_failure}
+use Rattle.writeable_core.specs.FirstFailureLaws.{failed_first, passed_first, head_passes}
+use Rattle.gettext.specs.declared.error.Error.{Error}
+use Rattle.std.specs.List.{AllByRecursion}
+use Rattle.std.proofs.lemmas.Bool.Decides.{Decides-eqb, Decides-like, same_from_decides}
 use Rattle.gettext.specs.declared.error.Error.TheVariants.{DecodingError, Eof, MisplacedMetadata}
 use Rattle.gettext.specs.declared.encoding.Encoding.{Encoding}
 use Rattle.gettext.specs.Encoding.{is_valid}
@@ -21,6 +24,12 @@ use Rattle.gettext.specs.Faults.{head_conditions}
 
 -- conditions behind others
 pub ruleset by_parts = (failed_first, passed_first)
+
+-- conditions without a fault all hold
+pub all_hold : (cs : List (Condition Error)) → first_failure cs ≡ None
+    → AllByRecursion (λ c. c.0 ≡ true) cs
+all_hold [] h = tt
+all_hold (c ∷ cs) h = let both = head_passes c cs h in (both.0, all_hold cs both.1)
 
 -- a number, read byte by byte
 module _ (b : List ℕ) (at : ℕ) where
@@ -137,10 +146,9 @@ module _ (e : Encoding) (i : ℕ) (o : List ℕ) where
 
 -- two equalities that follow from each other are one test
 same_test : (a b c d : ℕ) → (a ≡ b → c ≡ d) → (c ≡ d → a ≡ b) → (a == b) ≡ (c == d)
-same_test a b c d f g = by_test (a == b) refl where
-  by_test : (t : Bool) → (a == b) ≡ t → (a == b) ≡ (c == d)
-  by_test true h = h ∙ sym (eq-eqb c d (f (eqb-true a b h)))
-  by_test false h = h ∙ sym (ne_eqb c d (λ e. eqb-false a b h (g e)))
+same_test a b c d f g =
+    same_from_decides (a == b) (c == d) (Decides-eqb a b)
+    (Decides-like (c == d) g f (Decides-eqb c d))
 
 -- where a context may end
 pub ends-place : (key : List ℕ)

@@ -12,22 +12,20 @@ use Rattle.gettext.specs.declared.encoding.Encoding.TheVariants.{Utf8, Latin1, W
 use Rattle.gettext.specs.declared.parser.settings.Settings.{Settings}
 use Rattle.gettext.specs.declared.spans.Row.{Row}
 use Rattle.gettext.specs.Optional.{◌>>=◌}
-use Rattle.gettext.specs.Expression.{Expression}
-use Rattle.gettext.specs.Parsing.{expression_of}
 use Rattle.gettext.specs.Options.{Options}
-use Rattle.std.specs.Str.{chars}
 use Rattle.std.specs.Prelude.{Vec}
 use Rattle.std.specs.declared.alloc.Global.{Global}
 use Rattle.writeable_core.specs.Texts.{same_text}
 use Rattle.gettext.specs.Rule.{rule_shown}
 use Rattle.gettext.specs.Metadata.{Field, value_of}
-use Rattle.gettext.specs.Messages.{Message, Messages, Rule, Default, Expr, Function, StandsFor}
+use Rattle.gettext.specs.Messages.{Message, Messages, Rule, StandsFor}
 use Rattle.gettext.specs.Messages.{lookup, has_id, header_of, plurals_among, plurals_of}
 use Rattle.gettext.specs.Messages.{plurals_named, bound_by}
 use Rattle.gettext.specs.Layout.{count_of}
-use Rattle.gettext.specs.Mo.{AreRows, entries, fields_of_header, header_fields, row_message}
+use Rattle.gettext.specs.Mo.{IsRuleBy, AreRows, entries, fields_of_header, header_fields}
+use Rattle.gettext.specs.Mo.{row_message}
 use Rattle.gettext.specs.Mo.{first_encoding, later_encoding, plural_of, IsInUtf8}
-use Rattle.gettext.specs.Checks.{found_fault, rule_by}
+use Rattle.gettext.specs.Checks.{found_fault}
 use Rattle.gettext.specs.Settings.{plurals_by}
 use Rattle.gettext.specs.Table.{message_at, IsRowOf, Sorts, held, messages_of, HasOneHeader, Keeps}
 use Rattle.gettext.specs.Reader.{row_of, rows_from, IsRowIn}
@@ -35,7 +33,8 @@ use Rattle.gettext.specs.Decoding.{AreRowsIn, decoded_message, decoded_messages,
 use Rattle.gettext.specs.Files.{found_fields, AreFileRows, is_utf_8, is_in_utf8, IsFile}
 use Rattle.gettext.proofs.Bounds.{has_other, one_header-alike, bound-stands}
 use Rattle.gettext.proofs.Lookups.{lookup-messages}
-use Rattle.gettext.proofs.Meaning.{all_messages, row_messages, rule_found, meaning, has_meaning}
+use Rattle.gettext.proofs.Meaning.{rule_by-holds, all_messages, row_messages, rule_found, meaning}
+use Rattle.gettext.proofs.Meaning.{has_meaning}
 use Rattle.gettext.proofs.Meaning.{is_meaning, fields_are}
 use Rattle.gettext.proofs.Rows.{key_bytes-row_of, form_bytes-row_of}
 
@@ -97,11 +96,6 @@ one_header m ms all = λ k q x y e f h g. sym (is_first k x e h) ∙ is_first q 
 
 -- ---- the bound
 
--- an expression is no forced function
-no_function : (o : Option Expression) → option_map Expr o ≡ Some Function → ⊥
-no_function None h = cc
-no_function (Some e) h = cc
-
 -- the number of plurals in the header is that in the metadata of the file
 header_plurals : (m : Message) (ms : List Message) (fields : List Field)
     → AllByRecursion (λ m. has_id m.key ≡ true) ms → header_fields (m ∷ ms) ≡ Some fields
@@ -118,17 +112,12 @@ header_plurals m ms fields all h =
 
 -- the bound that is kept is that of the rule over the messages
 bound_is : (forced : Bool) (plural : Option (List ℕ)) (rule : Rule) (fields : List Field)
-    (pairs : List Message) → rule_by forced plural ≡ Some rule
+    (pairs : List Message) → IsRuleBy forced plural rule
     → (header_of pairs >>= plurals_named) ≡ plurals_among fields
     → plurals_by forced fields ≡ bound_by rule pairs
-bound_is true plural Function fields pairs r h = refl
-bound_is true plural Default fields pairs r h = absurd cc
-bound_is true plural (Expr e) fields pairs r h = absurd cc
-bound_is false plural Default fields pairs r h = sym h
-bound_is false plural (Expr e) fields pairs r h = sym h
-bound_is false None Function fields pairs r h = absurd cc
-bound_is false (Some text) Function fields pairs r h =
-    absurd (no_function (expression_of (chars text)) r)
+bound_is true plural rule fields pairs r h = rw r refl
+bound_is false None rule fields pairs r h = rw r (sym h)
+bound_is false (Some text) rule fields pairs r h = rw r.2 (sym h)
 
 -- ---- the table
 
@@ -200,8 +189,8 @@ module _ (b : List ℕ) (o : Options) (n : ℕ) (rows : List Row) (s : Settings)
         header = one;
         bounded = are.settings.plurals
             ∙ bound_is o.forced (plural_of (unwrap_or (found_fields b o n) [])) (rule_shown s.rule)
-            (unwrap_or (found_fields b o n) []) (meaning b o).pairs are.settings.rule
-            (rw (← fields) first.plurals)
+            (unwrap_or (found_fields b o n) []) (meaning b o).pairs
+            (rule_by-holds o.forced _ _ are.settings.rule) (rw (← fields) first.plurals)
             ∙ ap (λ (r : Rule). bound_by r (meaning b o).pairs) stands_for_meaning.rule
             ∙ sym (bound-stands kept (meaning b o) one stands_for_meaning);
       }

@@ -10,7 +10,6 @@ use Rattle.gettext.specs.declared.plurals.tokens.Token.TheVariants as token
 use Rattle.gettext.specs.declared.plurals.grammar.Level.{Level}
 use Rattle.gettext.specs.declared.plurals.grammar.Level.TheVariants as level
 use Rattle.gettext.specs.Optional.{◌>>=◌}
-use Rattle.gettext.specs.Expression.{Count, Number}
 use Rattle.gettext.specs.Grammar.{rank, tighter, level_of, IsPart, name, numeral, parentheses}
 use Rattle.gettext.specs.Grammar.{negation, binary, conditional, looser}
 use Rattle.gettext.specs.Parsing.{is_mark, after, Found, Parser, parse, at_level, atom, atom_or}

@@ -4,18 +4,17 @@ use Rattle.std.proofs.Common.{length, take, map, Option, Some, None, refl, sym, 
 use Rattle.std.proofs.Common.{inr}
 use Rattle.std.specs.Option.{unwrap_or}
 use Rattle.std.specs.List.{list_all}
-use Rattle.std.specs.Prelude.{nat_le, is_some, ◌==◌}
+use Rattle.std.specs.Prelude.{is_some, ◌==◌}
 use Rattle.std.specs.Str.{chars}
 use Rattle.std.proofs.lemmas.Bool.{and_parts, leb-true, le-leb}
 use Rattle.std.proofs.lemmas.Slice.Eq.{bytes_eq-Decides}
 use Rattle.std.specs.Bool.{Decides}
-use Rattle.std.proofs.lemmas.Bool.Decides.{same_from_decides}
-use Rattle.writeable_core.specs.FirstFailure.{Condition, first_failure}
-use Rattle.writeable_core.specs.FirstFailureLaws.{failed_first, passed_first, head_passes}
+use Rattle.std.proofs.lemmas.Bool.Decides.{Decides-or, same_from_decides}
+use Rattle.writeable_core.specs.FirstFailure.{first_failure}
+use Rattle.writeable_core.specs.FirstFailureLaws.{failed_first, passed_first}
 use Rattle.writeable_core.specs.FirstFailureLaws.{parts_pass}
 use Rattle.gettext.specs.declared.error.Error.{Error}
-use Rattle.gettext.specs.declared.error.Error.TheVariants.{BadMagic, Eof, MalformedMetadata}
-use Rattle.gettext.specs.declared.error.Error.TheVariants.{NoMemory, PluralParsing, UnknownEncoding}
+use Rattle.gettext.specs.declared.error.Error.TheVariants.{NoMemory}
 use Rattle.gettext.specs.declared.encoding.Encoding.{Encoding}
 use Rattle.gettext.specs.Options.{Options}
 use Rattle.writeable_core.specs.Texts.{same_text}
@@ -37,6 +36,7 @@ use Rattle.gettext.proofs.ExpressionOf.{expression_found, expression_is, some_ma
 use Rattle.gettext.proofs.Ids.{has_id-text_in}
 use Rattle.gettext.proofs.MetadataSettings.{first_named, rule_without}
 use Rattle.gettext.proofs.Rows.{RowHolds, row_holds, row_passes}
+use Rattle.gettext.proofs.Conditions.{all_hold}
 use Rattle.gettext.proofs.Memory.{or_memory}
 
 -- ---- texts
@@ -141,7 +141,7 @@ rule_by-is false None rule h = rw h refl
 rule_by-is false (Some text) rule h = rw (expression_found (chars text) h.0 h.1, h.2) refl
 
 -- what is read is the rule
-rule_by-holds : (forced : Bool) (plural : Option (List ℕ)) (rule : Rule)
+pub rule_by-holds : (forced : Bool) (plural : Option (List ℕ)) (rule : Rule)
     → rule_by forced plural ≡ Some rule → IsRuleBy forced plural rule
 rule_by-holds true plural rule h = cc
 rule_by-holds false None rule h = cc
@@ -169,14 +169,17 @@ settled : (o : Options) (found : Option (List Field))
 unfolding metadata_conditions
 settled o None h = absurd cc
 settled o (Some fields) h =
-    let encoding : Condition Error = (is_some (named_encoding o fields), UnknownEncoding) in
-    let rule : Condition Error = (is_some (rule_of o fields), PluralParsing) in
-    let first = head_passes (true, MalformedMetadata) (encoding ∷ rule ∷ []) h in
-    let second = head_passes encoding (rule ∷ []) first.1 in
-    let third = head_passes rule [] second.1 in
-    let e = some_passes (named_encoding o fields) second.0 in
-    let r = some_passes (rule_of o fields) third.0 in
-    record { fields = fields; is = refl; encoding = e.0; named = e.1; rule = r.0; ruled = r.1 }
+    let all = all_hold (metadata_checks o (Some fields)) h in
+    let e = some_passes (named_encoding o fields) all.1.0 in
+    let r = some_passes (rule_of o fields) all.1.1.0 in
+    record {
+      fields = fields;
+      is = refl;
+      encoding = e.0;
+      named = e.1;
+      rule = r.0;
+      ruled = r.1;
+    }
 
 -- of metadata that settle all three the conditions hold
 settled_passes : (o : Options) (found : Option (List Field)) → Settled o found
@@ -205,24 +208,12 @@ pub record HeaderHolds (b : List ℕ) : Type 0 where
   pub originals : originals_of b ≤ length b
   pub translations : translations_of b ≤ length b
 
--- a magic number passes its test
-magic_test : (m : List ℕ) → (m ≡ little_endian) ⊎ (m ≡ big_endian)
-    → (same_text m little_endian || same_text m big_endian) ≡ true
-magic_test m (inl e) = rw ((bytes_eq-Decides m little_endian).1 e) refl
-magic_test m (inr e) = or_right (same_text m little_endian) (same_text m big_endian)
-    ((bytes_eq-Decides m big_endian).1 e) where
-      or_right : (a b : Bool) → b ≡ true → (a || b) ≡ true
-      or_right true b e = refl
-      or_right false b e = e
-
--- what passes it is a magic number
-magic_is : (m : List ℕ) → (same_text m little_endian || same_text m big_endian) ≡ true
-    → (m ≡ little_endian) ⊎ (m ≡ big_endian)
-magic_is m e = by_test (same_text m little_endian) refl e where
-  by_test : (a : Bool) → same_text m little_endian ≡ a → (a || same_text m big_endian) ≡ true
-      → (m ≡ little_endian) ⊎ (m ≡ big_endian)
-  by_test true h e = inl ((bytes_eq-Decides m little_endian).0 h)
-  by_test false h e = inr ((bytes_eq-Decides m big_endian).0 e)
+-- the test for a magic number tells
+magic_decided : (m : List ℕ)
+    → Decides (same_text m little_endian || same_text m big_endian)
+    ((m ≡ little_endian) ⊎ (m ≡ big_endian))
+magic_decided m =
+    Decides-or _ _ (bytes_eq-Decides m little_endian) (bytes_eq-Decides m big_endian)
 
 -- a header that holds passes
 pub header_passes : (b : List ℕ) → HeaderHolds b → first_failure (header_conditions b) ≡ None
@@ -230,7 +221,7 @@ unfolding header_conditions
 header_passes b h =
     rw (
       le-leb 28 (length b) h.header,
-      magic_test (take 4 b) h.magic,
+      (magic_decided (take 4 b)).1 h.magic,
       le-leb _ _ h.originals,
       le-leb
           _ _ h.translations,
@@ -240,20 +231,12 @@ header_passes b h =
 pub header_holds : (b : List ℕ) → first_failure (header_conditions b) ≡ None → HeaderHolds b
 unfolding header_conditions
 header_holds b h =
-    let long : Condition Error = (nat_le 28 (length b), Eof) in
-    let magic : Condition Error =
-    (same_text (take 4 b) little_endian || same_text (take 4 b) big_endian, BadMagic) in
-    let originals : Condition Error = (nat_le (originals_of b) (length b), Eof) in
-    let translations : Condition Error = (nat_le (translations_of b) (length b), Eof) in
-    let first = head_passes long (magic ∷ originals ∷ translations ∷ []) h in
-    let second = head_passes magic (originals ∷ translations ∷ []) first.1 in
-    let third = head_passes originals (translations ∷ []) second.1 in
-    let fourth = head_passes translations [] third.1 in
+    let all = all_hold (header_conditions b) h in
     record {
-      header = leb-true _ _ first.0;
-      magic = magic_is (take 4 b) second.0;
-      originals = leb-true _ _ third.0;
-      translations = leb-true _ _ fourth.0;
+      header = leb-true _ _ all.0;
+      magic = (magic_decided (take 4 b)).0 all.1.0;
+      originals = leb-true _ _ all.1.1.0;
+      translations = leb-true _ _ all.1.1.1.0;
     }
 
 -- ---- the file

@@ -1,26 +1,25 @@
 -- What a row is where its conditions hold.
-use Rattle.std.proofs.Common.{◌≡◌, ℕ, ◌+◌, ◌-◌, ◌≤◌, true, not, ◌||◌, List, [], ◌∷◌, length, take}
+use Rattle.std.proofs.Common.{◌≡◌, ℕ, ◌+◌, ◌-◌, ◌≤◌, true, not, ◌||◌, List, length, take}
 use Rattle.std.proofs.Common.{drop, None, refl, sym, ap, ◌∙◌, arith}
 use Rattle.std.specs.List.{list_any, list_all, position_or_len}
-use Rattle.std.specs.Prelude.{nat_le, ◌==◌}
+use Rattle.std.specs.Prelude.{◌==◌}
 use Rattle.std.proofs.lemmas.Bool.{leb-true, le-leb}
 use Rattle.std.proofs.lemmas.List.{length-take, take-take}
 use Rattle.std.proofs.lemmas.List.Folds.{length-prefix_len}
-use Rattle.writeable_core.specs.FirstFailure.{Condition, first_failure}
-use Rattle.writeable_core.specs.FirstFailureLaws.{passed_first, head_passes, parts_pass}
-use Rattle.gettext.specs.declared.error.Error.{Error}
-use Rattle.gettext.specs.declared.error.Error.TheVariants.{DecodingError, Eof, MisplacedMetadata}
+use Rattle.writeable_core.specs.FirstFailure.{first_failure}
+use Rattle.writeable_core.specs.FirstFailureLaws.{passed_first, parts_pass}
 use Rattle.gettext.specs.declared.encoding.Encoding.{Encoding}
 use Rattle.gettext.specs.Encoding.{is_valid}
 use Rattle.gettext.specs.Messages.{has_id}
 use Rattle.gettext.specs.declared.spans.Span.{Span}
-use Rattle.gettext.specs.Layout.{LiesInside, row_place, is_nul, head_of, pieces_of, originals_of}
+use Rattle.gettext.specs.Layout.{LiesInside, is_nul, head_of, pieces_of, originals_of}
 use Rattle.gettext.specs.Layout.{translations_of, original_of, translation_of, text_offset}
 use Rattle.gettext.specs.Layout.{text_length}
 use Rattle.gettext.specs.Faults.{head_conditions, text_conditions, forms_conditions}
 use Rattle.gettext.specs.Faults.{original_conditions, translation_conditions, row_conditions}
 use Rattle.gettext.specs.Table.{key_bytes, form_bytes}
 use Rattle.gettext.specs.Reader.{text_span, head_span, row_of, IsTextSpan, IsRowIn, IsReadRow}
+use Rattle.gettext.proofs.Conditions.{all_hold}
 
 -- ---- the bytes that the ranges of a row hold
 
@@ -71,11 +70,8 @@ text_holds : (b : List ℕ) (table i : ℕ) → first_failure (text_conditions b
     → LiesInside b table i
 unfolding text_conditions
 text_holds b table i h =
-    let text : Condition Error =
-    (nat_le (text_offset b table i + text_length b table i + 1) (length b), Eof) in
-    let first = head_passes (nat_le (row_place table i + 8) (length b), Eof) (text ∷ []) h in
-    let second = head_passes text [] first.1 in
-    record { row = leb-true _ _ first.0; text = leb-true _ _ second.0 }
+    let all = all_hold (text_conditions b table i) h in
+    record { row = leb-true _ _ all.0; text = leb-true _ _ all.1.0 }
 
 -- of a text inside the file they hold
 text_passes : (b : List ℕ) (table i : ℕ) → LiesInside b table i
@@ -88,27 +84,17 @@ pub row_holds : (b : List ℕ) (e : Encoding) (i : ℕ) → first_failure (row_c
     → RowHolds b e i
 unfolding row_conditions original_conditions translation_conditions head_conditions forms_conditions
 row_holds b e i h =
-    let text : Condition Error = (is_valid e (head_of (original_of b i)), DecodingError) in
-    let id : Condition Error =
-    ((i == 0) || has_id (head_of (original_of b i)), MisplacedMetadata) in
-    let ended : Condition Error = (list_any is_nul (original_of b i), Eof) in
-    let forms : Condition Error =
-    (list_all (is_valid e) (pieces_of (translation_of b i)), DecodingError) in
     let both = parts_pass (original_conditions b e i) (translation_conditions b e i) h in
-    let original =
-    parts_pass (text_conditions b (originals_of b) i) (ended ∷ text ∷ id ∷ []) both.0 in
-    let translation = parts_pass (text_conditions b (translations_of b) i) (forms ∷ []) both.1 in
-    let first = head_passes ended (text ∷ id ∷ []) original.1 in
-    let second = head_passes text (id ∷ []) first.1 in
-    let third = head_passes id [] second.1 in
-    let fourth = head_passes forms [] translation.1 in
+    let original = parts_pass (text_conditions b (originals_of b) i) _ both.0 in
+    let translation = parts_pass (text_conditions b (translations_of b) i) _ both.1 in
+    let heads = all_hold (head_conditions e i (original_of b i)) original.1 in
     record {
       original = text_holds b (originals_of b) i original.0;
-      ended = first.0;
-      key = second.0;
-      id = third.0;
+      ended = heads.0;
+      key = heads.1.0;
+      id = heads.1.1.0;
       translation = text_holds b (translations_of b) i translation.0;
-      forms = fourth.0;
+      forms = (all_hold (forms_conditions e (translation_of b i)) translation.1).0;
     }
 
 -- a row that holds passes

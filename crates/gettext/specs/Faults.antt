@@ -1,7 +1,7 @@
 -- What is wrong with the bytes of an MO file: the first condition that fails, in the order of the
 -- format.
 use Rattle.std.specs.Prelude.{◌≡◌, ℕ, zero, suc, ◌+◌, Bool, ◌||◌, List, [], ◌∷◌, ◌++◌}
-use Rattle.std.specs.Prelude.{length, take, Option, Some, None, is_some, nat_le, ◌==◌}
+use Rattle.std.specs.Prelude.{length, take, Option, is_some, nat_le, ◌==◌}
 use Rattle.std.specs.List.{list_any, list_all}
 use Rattle.std.specs.Option.{unwrap_or}
 use Rattle.std.specs.Bool.{Decides}
