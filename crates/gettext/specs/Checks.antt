@@ -1,5 +1,5 @@
--- What is wrong with a file, as the reader finds it. Private contracts cite it; that it is
--- `mo_fault` follows from the law `one_tree`.
+-- What is wrong with a file, as the reader finds it. Private contracts alone cite this file: it is
+-- `mo_fault`, since `expression_of` finds the trees that `expr` has (the law `one_tree`).
 use Rattle.std.specs.Prelude.{ℕ, Bool, true, false, List, [], Option, Some, None, is_some}
 use Rattle.std.specs.Option.{option_map, unwrap_or}
 use Rattle.std.specs.Str.{chars}

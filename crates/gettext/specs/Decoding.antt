@@ -27,8 +27,8 @@ decoded_messages b first later (r ∷ rs) =
     decoded_message b first r ∷ decoded_messages b later later rs
 
 -- the texts of a row stand behind others, and the new row says where
-pub record DecodesRow (b : List ℕ) (e : Encoding) (r : Row) (old new : List ℕ) (d : Row) : Type
-    0 where
+pub record DecodesRow (b : List ℕ) (e : Encoding) (r : Row) (old new : List ℕ)
+    (d : Row) : Type 0 where
   pub texts : new ≡ old ++ (utf8_in e (key_bytes b r) ++ utf8_in e (bytes_at b r.forms))
   pub key_start : d.key.start ≡ length old
   pub key_end : d.key.end ≡ length old + length (utf8_in e (key_bytes b r))

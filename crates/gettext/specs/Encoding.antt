@@ -21,7 +21,8 @@ high_characters =
 -- the character of a byte in windows-1252
 unfoldable pub windows_1252 : ℕ → ℕ
 windows_1252 byte =
-    if nat_le 0x80 byte && nat_le byte 0x9F then get_or high_characters (byte - 0x80) byte else byte
+    if nat_le 0x80 byte && nat_le byte 0x9F
+    then get_or high_characters (byte - 0x80) byte else byte
 
 -- the bytes are the text in that encoding
 abbrev pub IsText : Encoding → List ℕ → List ℕ → Type 0
@@ -55,10 +56,9 @@ utf_8_labels = codes "utf-8" ∷ codes "utf8" ∷ codes "unicode-1-1-utf-8" ∷ 
 abbrev pub windows_1252_labels : List (List ℕ)
 windows_1252_labels =
     codes "ascii" ∷ codes "us-ascii" ∷ codes "ansi_x3.4-1968" ∷ codes "cp819" ∷ codes "ibm819"
-    ∷ codes "iso-8859-1" ∷ codes "iso8859-1" ∷ codes "iso88591" ∷ codes "iso_8859-1" ∷ codes
-    "iso_8859-1:1987"
-    ∷ codes "iso-ir-100" ∷ codes "csisolatin1" ∷ codes "l1" ∷ codes "latin1" ∷ codes
-    "windows-1252" ∷ codes "cp1252" ∷ codes "x-cp1252"
+    ∷ codes "iso-8859-1" ∷ codes "iso8859-1" ∷ codes "iso88591" ∷ codes "iso_8859-1"
+    ∷ codes "iso_8859-1:1987" ∷ codes "iso-ir-100" ∷ codes "csisolatin1" ∷ codes "l1"
+    ∷ codes "latin1" ∷ codes "windows-1252" ∷ codes "cp1252" ∷ codes "x-cp1252"
     ∷ []
 
 -- whether a label is one of some
@@ -75,8 +75,9 @@ trimmed label = without_end (drop (prefix_len is_ascii_whitespace label) label)
 
 -- the encoding that has such a label, in lower case
 abbrev pub encoding_named : List ℕ → Option Encoding
-encoding_named name = if is_among utf_8_labels name then Some Utf8 else if is_among
-    windows_1252_labels name then Some Windows1252 else None
+encoding_named name =
+    if is_among utf_8_labels name then Some Utf8
+    else if is_among windows_1252_labels name then Some Windows1252 else None
 
 -- the encoding that a label names, without case and ASCII white space around it
 unfoldable pub encoding_of : List ℕ → Option Encoding

@@ -92,8 +92,8 @@ unfoldable pub all_rows_conditions : List ℕ → Options → Bool → ℕ → L
 all_rows_conditions b o ruled zero = []
 all_rows_conditions b o ruled (suc n) =
     row_conditions b (first_encoding o) 0
-    ++ (metadata_conditions o (fields_in_file b o) ruled ++ rows_conditions b (later_encoding b o) 1
-    n)
+    ++ (metadata_conditions o (fields_in_file b o) ruled
+    ++ rows_conditions b (later_encoding b o) 1 n)
 
 -- the first condition that fails, where it is told whether the file has a rule
 unfoldable pub first_fault : List ℕ → Options → Bool → Option Error

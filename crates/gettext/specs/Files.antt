@@ -23,8 +23,8 @@ found_fields b o zero = Some []
 found_fields b o (suc n) = fields_in_file b o
 
 -- n rows of a file in their order, and what its metadata settle
-pub record AreFileRows (b : List ℕ) (o : Options) (n : ℕ) (rows : List Row) (s : Settings) : Type
-    0 where
+pub record AreFileRows (b : List ℕ) (o : Options) (n : ℕ) (rows : List Row)
+    (s : Settings) : Type 0 where
   pub are : rows ≡ rows_from b 0 n
   pub fit : AreRowsIn b (first_encoding o) s.encoding (rows_from b 0 n)
   pub settings : IsSettings o (unwrap_or (found_fields b o n) []) s

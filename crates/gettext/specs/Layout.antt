@@ -24,8 +24,9 @@ is_big_endian b = same_text (take 4 b) big_endian
 
 -- the number whose four bytes begin at a place
 unfoldable pub number : List ℕ → ℕ → ℕ
-number b at = if is_big_endian b then from_be_bytes w32 (take 4 (drop at b)) else from_le_bytes w32
-    (take 4 (drop at b))
+number b at =
+    if is_big_endian b then from_be_bytes w32 (take 4 (drop at b))
+    else from_le_bytes w32 (take 4 (drop at b))
 
 -- how many strings there are, and where the table of the originals and that of the translations
 -- start

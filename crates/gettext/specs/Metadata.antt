@@ -71,8 +71,9 @@ value_of fields name = last_value (same_text name) fields
 -- what stands behind the first place of a word, and what before it
 abbrev pub after_word : List ℕ → List ℕ → Option (List ℕ)
 after_word word [] = None
-after_word word (c ∷ cs) = if starts_with nat_eq (c ∷ cs) word then
-    Some (drop (length word) (c ∷ cs)) else after_word word cs
+after_word word (c ∷ cs) =
+    if starts_with nat_eq (c ∷ cs) word then Some (drop (length word) (c ∷ cs))
+    else after_word word cs
 
 -- what stands before the first place of a word, or the whole text
 abbrev pub before_word : List ℕ → List ℕ → List ℕ
@@ -116,8 +117,9 @@ names_count name = same_text name (codes "nplurals") || same_text name (codes "n
 unfoldable pub number_in : List ℕ → Option ℕ
 number_in text =
     let digits = without_leading_plus text in
-    if not (length digits == 0) && list_all is_ascii_digit digits && nat_lt (digits_value 10 digits)
-    (2 ^ 64) then Some (digits_value 10 digits) else None
+    if not (length digits == 0) && list_all is_ascii_digit digits
+    && nat_lt (digits_value 10 digits) (2 ^ 64)
+    then Some (digits_value 10 digits) else None
 
 -- the number of plurals in the value of Plural-Forms
 unfoldable pub count_in : List ℕ → Option ℕ

@@ -1,6 +1,6 @@
--- Reading an expression from left to right, as a function. The grammar decides: `expression_of`
--- finds the tree that it has for a text, and none where it has none (the law `one_tree`).
--- Conditions cite that, and private contracts the rest.
+-- Reading an expression from left to right, as a function. Private contracts alone cite this file:
+-- the grammar decides, and `expression_of` finds the tree that it has for a text, and none where it
+-- has none (the law `one_tree`).
 use Rattle.std.specs.Prelude.{◌≡◌, ℕ, zero, suc, ◌+◌, max, Bool, true, false, List, [], ◌∷◌, length}
 use Rattle.std.specs.Prelude.{drop, Option, Some, None, Result, MatchResult, ◌⊎◌, nat_lt, ◌==◌}
 use Rattle.std.specs.Prelude.{if◌then◌else◌}
@@ -132,8 +132,9 @@ chosen c a b = record {
 abbrev pub choice_at : Parser → ℕ → Found → Option (List Token) → Option Found
 choice_at inner budget c None = Some c
 choice_at inner budget c (Some ts) =
-    if nat_lt c.height budget then
-    (inner ts >>= λ a. after token.Colon a.rest >>= λ us. inner us >>= λ b. Some (chosen c a b))
+    if nat_lt c.height budget
+    then (inner ts
+    >>= λ a. after token.Colon a.rest >>= λ us. inner us >>= λ b. Some (chosen c a b))
     else None
 
 -- a part of the loosest level
@@ -195,8 +196,9 @@ abbrev pub tokens_from : ℕ → List ℕ → Option (List Token)
 tokens_from n [] = Some []
 tokens_from zero (c ∷ text) = None
 tokens_from (suc n) (c ∷ text) =
-    if is_space c then tokens_from n text else
-    (token_at (c ∷ text) >>= λ t. option_map (λ ts. t.0 ∷ ts) (tokens_from n (drop t.1 (c ∷ text))))
+    if is_space c then tokens_from n text
+    else (token_at (c ∷ text)
+    >>= λ t. option_map (λ ts. t.0 ∷ ts) (tokens_from n (drop t.1 (c ∷ text))))
 
 -- the tree of a part that all tokens are
 abbrev pub whole_tree : Found → Option Expression

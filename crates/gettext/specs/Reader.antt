@@ -85,8 +85,8 @@ pub record IsKeyed (b : List ℕ) (entry : Bor (List ℕ) × Row) : Type 0 where
   pub row : IsRowOf b entry.1
 
 -- The map finds the last of the rows with each key.
-pub record Collects (b : List ℕ) (rows : List Row) (found : BTreeMap (Bor (List ℕ)) Row) : Type
-    0 where
+pub record Collects (b : List ℕ) (rows : List Row)
+    (found : BTreeMap (Bor (List ℕ)) Row) : Type 0 where
   pub keyed : AllByRecursion (IsKeyed b) found.entries
   pub ordered : IsStrictlySortedBy (λ x y. slice_cmp nat_cmp x.now y.now) (keys found)
   pub finds : (q : List ℕ) → get_by (λ k. slice_cmp nat_cmp q k.now) found ≡ row_for b rows q

@@ -86,8 +86,8 @@ HasOneHeader pairs = (k q : List ℕ) (m n : Message) → lookup pairs k ≡ Som
     → lookup pairs q ≡ Some n → has_id k ≡ false → has_id q ≡ false → k ≡ q
 
 -- the table, and what bounds the numbers of its forms
-pub record Keeps (buffer : List ℕ) (rows : List Row) (rule : PluralRule) (plurals : Option ℕ) : Type
-    0 where
+pub record Keeps (buffer : List ℕ) (rows : List Row) (rule : PluralRule)
+    (plurals : Option ℕ) : Type 0 where
   pub table : IsTable buffer rows
   pub header : HasOneHeader (map (message_at buffer) rows)
   pub bounded : plurals ≡ bound (messages_of (held buffer rows rule))

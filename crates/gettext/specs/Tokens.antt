@@ -52,13 +52,14 @@ measured w = (w.1, length w.0)
 unfoldable pub numeral_at : List ℕ → Option (Token × ℕ)
 numeral_at text =
     let digits = take_while is_ascii_digit text in
-    if nat_lt (digits_value 10 digits) (2 ^ 64) then
-    Some (Numeral (digits_value 10 digits), length digits) else None
+    if nat_lt (digits_value 10 digits) (2 ^ 64)
+    then Some (Numeral (digits_value 10 digits), length digits) else None
 
 -- The token that a text begins with, and its length. It is as long as it can be.
 unfoldable pub token_at : List ℕ → Option (Token × ℕ)
-token_at text = if length (take_while is_ascii_digit text) == 0 then option_map measured
-    (word_at text) else numeral_at text
+token_at text =
+    if length (take_while is_ascii_digit text) == 0
+    then option_map measured (word_at text) else numeral_at text
 
 -- space and U+0009 to U+000D
 abbrev pub is_space : ℕ → Bool
