@@ -27,10 +27,10 @@ exactly : {b : List ℕ} {o : Options} (e : Error) → (e ≡ NoMemory) ⊎ (fou
     → (e ≡ NoMemory) ⊎ mo_fault b o (Some e)
 exactly {b = b} {o = o} e h = or_memory h (λ g. fault_found b o (Some e) g)
 
-module _ {T : Type 0} (held : T → Held) (b : List ℕ) (o : Options) where
+module _ (b : List ℕ) (o : Options) where
   -- the bytes are refused
   pub bytes_refused : (e : Error) → (e ≡ NoMemory) ⊎ (found_fault b o ≡ Some e)
-      → ParsesBytes (Err e) held b o
+      → ParsesBytes (Err e) b o
   bytes_refused e h = record {
     read = λ c m. only_memory b o c e m h;
     ok = tt;
@@ -40,9 +40,9 @@ module _ {T : Type 0} (held : T → Held) (b : List ℕ) (o : Options) where
   }
 
   -- the bytes are read
-  pub bytes_read : (t : T) → found_fault b o ≡ None
-      → ((c : Messages) → entries b o c → StandsFor (messages_of (held t)) c)
-      → (IsInUtf8 b o → (held t).buffer ≡ b) → ParsesBytes (Ok t) held b o
+  pub bytes_read : (t : Held) → found_fault b o ≡ None
+      → ((c : Messages) → entries b o c → StandsFor (messages_of t) c)
+      → (IsInUtf8 b o → t.buffer ≡ b) → ParsesBytes (Ok t) b o
   bytes_read t none stands plain =
       let m = has_meaning b o none in
       record {
@@ -52,32 +52,6 @@ module _ {T : Type 0} (held : T → Held) (b : List ℕ) (o : Options) where
         exact = fault_found b o None none;
         buffer = plain;
       }
-
--- what holds of a table holds of what is around it
-pub bytes_around : {T U : Type 0} (held : T → Held) (around : U → Held) (b : List ℕ) (o : Options)
-    (t : T) (u : U) → held t ≡ around u → ParsesBytes (Ok t) held b o
-    → ParsesBytes (Ok u) around b o
-bytes_around held around b o t u same h =
-    let P : Held → Type 0 = λ x. ParsesBytes (Ok x) (λ y. y) b o in
-    let k = subst P same (record {
-      read = h.read;
-      ok = h.ok;
-      err = h.err;
-      exact = h.exact;
-      buffer = h.buffer;
-    }) in
-    record { read = k.read; ok = k.ok; err = k.err; exact = k.exact; buffer = k.buffer }
-
--- a refusal is the same of what is around the table
-pub refused_around : {T U : Type 0} (held : T → Held) (around : U → Held) (b : List ℕ) (o : Options)
-    (e : Error) → ParsesBytes (Err e) held b o → ParsesBytes (Err e) around b o
-refused_around held around b o e h = record {
-  read = h.read;
-  ok = tt;
-  err = h.err;
-  exact = h.exact;
-  buffer = tt;
-}
 
 -- ---- sources
 
@@ -98,13 +72,13 @@ too_many : (l : Option (List ℕ)) (P Q : List ℕ → Type 0) → IfSome l P �
 too_many None P Q h f = tt
 too_many (Some t) P Q h f = f t h
 
-module _ {S T : Type 0} (left : S → Option (List ℕ)) (ended : S → Bool) (faults : S → ℕ)
-    (old new : S) (held : T → Held) (o : Options) where
+module _ {S : Type 0} (left : S → Option (List ℕ)) (ended : S → Bool) (faults : S → ℕ)
+    (old new : S) (o : Options) where
   -- the source isn't read to its end
   pub source_unread : (r : ReadError)
       → IsReadError most_bytes (faults old) (faults new) (left old) r
       → (r ≡ reading.TooLong → faults new ≡ faults old) → faults old ≤ faults new
-      → ParsesSource left ended faults old new (Err (error_of r)) held o
+      → ParsesSource left ended faults old new (Err (error_of r)) o
   source_unread reading.Fault rose same later = record {
     read = any (left old) _ (λ t c le m. tt);
     ok = tt;
@@ -152,7 +126,7 @@ module _ {S T : Type 0} (left : S → Option (List ℕ)) (ended : S → Bool) (f
 
     -- the bytes are refused
     pub source_refused : (e : Error) → (e ≡ NoMemory) ⊎ (found_fault bytes o ≡ Some e)
-        → ParsesSource left ended faults old new (Err e) held o
+        → ParsesSource left ended faults old new (Err e) o
     source_refused e h = record {
       read = told (left old) bytes all
           (λ t. (c : Messages) → length t ≤ most_bytes → entries t o c → IsReadFault e)
@@ -168,68 +142,23 @@ module _ {S T : Type 0} (left : S → Option (List ℕ)) (ended : S → Bool) (f
     }
 
     -- the bytes are read
-    pub source_read : (t : T) → found_fault bytes o ≡ None
-        → ((c : Messages) → entries bytes o c → StandsFor (messages_of (held t)) c)
-        → (IsInUtf8 bytes o → (held t).buffer ≡ bytes)
-        → ParsesSource left ended faults old new (Ok t) held o
+    pub source_read : (t : Held) → found_fault bytes o ≡ None
+        → ((c : Messages) → entries bytes o c → StandsFor (messages_of t) c)
+        → (IsInUtf8 bytes o → t.buffer ≡ bytes)
+        → ParsesSource left ended faults old new (Ok t) o
     source_read t none stands plain =
         let m = has_meaning bytes o none in
         record {
           read = told (left old) bytes all
               (λ b. (c : Messages) → length b ≤ most_bytes → entries b o c
-              → StandsFor (messages_of (held t)) c) (λ c le e. stands c e);
-          ok = told (left old) bytes all (λ b. (length b ≤ most_bytes) × MeansBytes b o (held t))
+              → StandsFor (messages_of t) c) (λ c le e. stands c e);
+          ok = told (left old) bytes all (λ b. (length b ≤ most_bytes) × MeansBytes b o t)
               (within, (meaning bytes o, m, stands (meaning bytes o) m));
           exact = told (left old) bytes all (λ b. source_fault b o None)
               (inl (within, fault_found bytes o None none));
-          buffer = told (left old) bytes all (λ b. IsInUtf8 b o → (held t).buffer ≡ b) plain;
+          buffer = told (left old) bytes all (λ b. IsInUtf8 b o → t.buffer ≡ b) plain;
           io = tt;
           later = omega (arith, end.no_fault);
           read_to_end = λ at. end;
           no_fault = λ is. end.no_fault;
         }
-
--- what holds of a table that a source gave holds of what is around it
-pub source_around : {S T U : Type 0} (left : S → Option (List ℕ)) (ended : S → Bool)
-    (faults : S → ℕ) (old new : S) (held : T → Held) (around : U → Held) (o : Options) (t : T)
-    (u : U) → held t ≡ around u → ParsesSource left ended faults old new (Ok t) held o
-    → ParsesSource left ended faults old new (Ok u) around o
-source_around left ended faults old new held around o t u same h =
-    let P : Held → Type 0 = λ x. ParsesSource left ended faults old new (Ok x) (λ y. y) o in
-    let k = subst P same (record {
-      read = h.read;
-      ok = h.ok;
-      exact = h.exact;
-      buffer = h.buffer;
-      io = h.io;
-      later = h.later;
-      read_to_end = h.read_to_end;
-      no_fault = λ is. absurd cc;
-    }) in
-    record {
-      read = k.read;
-      ok = k.ok;
-      exact = k.exact;
-      buffer = k.buffer;
-      io = k.io;
-      later = k.later;
-      read_to_end = k.read_to_end;
-      no_fault = λ is. absurd cc;
-    }
-
--- a refusal is the same of what is around the table
-pub unread_around : {S T U : Type 0} (left : S → Option (List ℕ)) (ended : S → Bool)
-    (faults : S → ℕ) (old new : S) (held : T → Held) (around : U → Held) (o : Options) (e : Error)
-    → ParsesSource left ended faults old new (Err e) held o
-    → ParsesSource left ended faults old new (Err e) around o
-unread_around left ended faults old new held around o e h =
-    record {
-      read = h.read;
-      ok = tt;
-      exact = h.exact;
-      buffer = tt;
-      io = h.io;
-      later = h.later;
-      read_to_end = h.read_to_end;
-      no_fault = λ is. let same : e ≡ TooLong = cc in h.no_fault (rw same refl);
-    }

@@ -17,7 +17,7 @@ ghost use Rattle.gettext.specs.Mo.{IsRow, entries};
 ghost use Rattle.gettext.specs.MoLaws.{IsKeyOf};
 ghost use Rattle.gettext.specs.Faults.{IsMoFault, mo_fault};
 ghost use Rattle.gettext.specs.Options.{Options, plain_options};
-ghost use Rattle.gettext.specs.Parse.{ParsesBytes, ParsesSource};
+ghost use Rattle.gettext.specs.Parse.{ParsesBytes, ParsesSource, held_in};
 ghost use Rattle.gettext.specs.Table.{IsRangeOf, messages_of};
 
 use crate::error::Error;
@@ -60,7 +60,7 @@ impl Catalog {
     /// 67,108,864 bytes at most.
     pub fn parse<S: Source>(alloc: Global, source: &mut S) -> Result<Catalog, Error>
         ensures { ParsesSource S.left S.ended S.faults source.old source.new
-            result (λ catalog. catalog.entries) plain_options }
+            (held_in (λ catalog. catalog.entries) result) plain_options }
     {
         ParseOptions::new().parse(alloc, source)
     }
@@ -68,7 +68,8 @@ impl Catalog {
     /// The messages of an MO file (GNU gettext manual, section 10.3). Of equal keys the last row
     /// counts.
     pub fn parse_bytes(alloc: Global, bytes: &[u8]) -> Result<Catalog, Error>
-        ensures { ParsesBytes result (λ catalog. catalog.entries) bytes.now plain_options }
+        ensures { ParsesBytes (held_in (λ catalog. catalog.entries) result) bytes.now
+            plain_options }
     {
         ParseOptions::new().parse_bytes(alloc, bytes)
     }

@@ -25,7 +25,7 @@ use writeable_core::Source;
 
 /// The table of a file's messages. Of equal keys the last row counts.
 pub fn table_of_bytes(alloc: Global, bytes: &[u8], options: Options) -> Result<Table, Error>
-    ensures { ParsesBytes result (λ table. table) bytes.now options }
+    ensures { ParsesBytes result bytes.now options }
 {
     let File {
         texts,
@@ -43,7 +43,7 @@ pub fn table_of_source<S: Source>(
     options: Options,
 ) -> Result<Table, Error>
     ensures { ParsesSource S.left S.ended S.faults source.old source.new
-        result (λ table. table) options }
+        result options }
 {
     let bytes = match read_all(alloc, source) {
         Ok(bytes) => bytes,
