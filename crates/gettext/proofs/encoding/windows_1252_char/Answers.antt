@@ -3,8 +3,7 @@ use Rattle.gettext.proofs.Encodings.{windows_1252-high, windows_1252-low, window
 use Rattle.gettext.proofs.encoding.windows_1252_char.Goals as goal
 
 pub returns-in-128-to-159 : goal.returns-in-128-to-159
-returns-in-128-to-159 c =
-    windows_1252-high c.args.byte c.from.result (omega arith) (omega arith) c.from.ensures
+returns-in-128-to-159 c = windows_1252-high _ _ (omega arith) (omega arith) c.from.ensures
 
 pub returns-in_default : goal.returns-in_default
 returns-in_default c =

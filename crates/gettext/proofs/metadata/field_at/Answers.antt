@@ -6,8 +6,8 @@ use Rattle.gettext.proofs.metadata.field_at.Goals as goal
 pub returns-in_err-name : goal.returns-in_err-name
 returns-in_err-name c =
     rw c.from_residual.ensures
-    (sym (field_of-none (λ b. b == c.args.sign) c.args.text.now
-    (split_once_first c.args.sign c.args.text.now None c.in_err-name.ensures.cases c.requires)))
+    (sym (field_of-none (λ b. b == c.args.sign)
+    _ (split_once_first _ _ None c.in_err-name.ensures.cases c.requires)))
 
 pub returns : goal.returns
 returns c =

@@ -15,14 +15,13 @@ use Rattle.gettext.proofs.MetadataFields.{all_malformed, from_ok_or}
 use Rattle.gettext.proofs.metadata.parse_metadata.Goals as goal
 
 pub loop-line-init : goal.loop-line-init
-loop-line-init c = nothing_read c.new-fields.result c.new-fields.ensures.empty
+loop-line-init c = nothing_read _ c.new-fields.ensures.empty
 
 pub loop-line-preserved-then-is_empty : goal.loop-line-preserved-then-is_empty
 loop-line-preserved-then-is_empty c =
     let empty : (length c.in-Some.line.now == 0) ≡ true = sym c.if-is_empty.ensures in
-    rw (map-append (λ s. s.now) c.loop-line.yielded (c.in-Some.line ∷ []))
-    (line_skipped (map (λ s. s.now) c.loop-line.yielded) c.in-Some.line.now c.loop-line.fields empty
-    c.loop-line.invariant)
+    rw (map-append (λ s. s.now) _ (c.in-Some.line ∷ []))
+    (line_skipped (map (λ s. s.now) _) _ _ empty c.loop-line.invariant)
 
 malformed : (c : goal.After-drop-fields) → fields_of c.args.blob.now ≡ None
 malformed c =

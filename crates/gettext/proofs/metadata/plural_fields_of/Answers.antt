@@ -14,9 +14,8 @@ loop-piece-init c = nothing_found
 
 pub loop-piece-preserved-in_default : goal.loop-piece-preserved-in_default
 loop-piece-preserved-in_default c =
-    rw (map-append (λ s. s.now) c.loop-piece.yielded (c.in-Some.piece ∷ []))
-    (piece_skipped (map (λ s. s.now) c.loop-piece.yielded) c.in-Some.piece.now c.loop-piece.count
-    c.loop-piece.expression (sym c.in_default.ensures) c.loop-piece.invariant)
+    rw (map-append (λ s. s.now) _ (c.in-Some.piece ∷ []))
+    (piece_skipped (map (λ s. s.now) _) _ _ _ (sym c.in_default.ensures) c.loop-piece.invariant)
 
 pub loop-piece-preserved-then-eq : goal.loop-piece-preserved-then-eq
 loop-piece-preserved-then-eq c =

@@ -10,5 +10,4 @@ returns-clause-found c =
     c.find_row.ensures)
 
 pub returns-clause-fits : goal.returns-clause-fits
-returns-clause-fits c = if_fits c.args.buffer.now c.args.rows.now _ c.find_row.result
-    c.requires.rows_fit c.find_row.ensures
+returns-clause-fits c = if_fits _ _ _ _ c.requires.rows_fit c.find_row.ensures

@@ -5,6 +5,3 @@ pub returns-in_err-entries-clause-read : goal.returns-in_err-entries-clause-read
 returns-in_err-entries-clause-read g c =
     let p = err_from_is_err_and c.from_residual.result c.from_residual.ensures.1 in
     rw (p.1, p.2) (rw c.options.ensures at c.in_err-entries.ensures)
-
-pub returns-clause-read : goal.returns-clause-read
-returns-clause-read g c = rw c.options.ensures at c.in_ok-entries.ensures

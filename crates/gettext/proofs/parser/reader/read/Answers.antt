@@ -22,20 +22,18 @@ returns-in_err-rows c =
 pub sorted-requires : goal.sorted-requires
 sorted-requires c =
     rw c.deref.ensures.value
-    (fit_in_place c.args.bytes.now c.args.options c.in_ok-header.header.count
-    c.in_ok-rows.field-0.rows.items c.in_ok-rows.field-0.settings c.in_ok-rows.ensures.0
-    c.len.result (c.len.ensures ∙ c.in_ok-rows.field-0.rows.ok.0)
+    (fit_in_place _ _ _ _ _ c.in_ok-rows.ensures.0
+    _ (c.len.ensures ∙ c.in_ok-rows.field-0.rows.ok.0)
     (rw (← c.first_encoding-first.ensures) (sym c.is_in_utf8.ensures ∙ c.if-is_in_utf8.true)))
 
 pub returns-then-is_in_utf8 : goal.returns-then-is_in_utf8
 returns-then-is_in_utf8 c =
-    let none = all_pass c.args.bytes.now c.args.options c.in_ok-header.header.count
-    c.in_ok-header.ensures.0.count c.in_ok-header.ensures.1 c.in_ok-rows.ensures.1 in (
-      file_in_place c.args.bytes.now c.args.options c.in_ok-header.header.count
-          c.in_ok-rows.field-0.rows.items c.in_ok-rows.field-0.settings c.in_ok-rows.ensures.0
-          c.len.result (c.len.ensures ∙ c.in_ok-rows.field-0.rows.ok.0)
-          c.in_ok-header.ensures.0.count none c.in_ok-rows-2.rows
-          (rw (← c.first_encoding-first.ensures) (sym c.is_in_utf8.ensures ∙ c.if-is_in_utf8.true))
+    let none =
+    all_pass _ _ _ c.in_ok-header.ensures.0.count c.in_ok-header.ensures.1 c.in_ok-rows.ensures.1 in (
+      file_in_place _ _ _ _ _ c.in_ok-rows.ensures.0
+          _ (c.len.ensures ∙ c.in_ok-rows.field-0.rows.ok.0) c.in_ok-header.ensures.0.count none
+          _ (rw (← c.first_encoding-first.ensures)
+          (sym c.is_in_utf8.ensures ∙ c.if-is_in_utf8.true))
           (rw (← c.deref.ensures.value) c.in_ok-rows-2.ensures),
       none,
     )

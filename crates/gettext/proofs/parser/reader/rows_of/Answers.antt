@@ -5,8 +5,7 @@ use Rattle.gettext.proofs.parser.reader.rows_of.Goals as goal
 
 pub returns-then-header-eq0 : goal.returns-then-header-eq0
 returns-then-header-eq0 c =
-    no_rows c.args.bytes.now c.args.options c.args.header.count c.new-rows.result.items
-    c.plain.result c.if-header-eq0.true c.new-rows.ensures.items c.plain.ensures
+    no_rows _ _ _ _ _ c.if-header-eq0.true c.new-rows.ensures.items c.plain.ensures
 
 pub returns-in_err-first : goal.returns-in_err-first
 returns-in_err-first c =
@@ -38,8 +37,7 @@ returns-in_err-push_rows c =
 pub returns : goal.returns
 returns c =
     let first = rw c.first_encoding.ensures at c.in_ok-first.ensures in
-    all_read c.args.bytes.now c.args.options c.args.header.count c.if-header-eq0.false first.1
-    c.in_ok-settings.settings c.in_ok-settings.ensures.0 c.in_ok-settings.ensures.1
-    c.in_ok-first.first _ c.push_rows.new.rows.items first.0
+    all_read _ _ _ c.if-header-eq0.false first.1 _ c.in_ok-settings.ensures.0
+    c.in_ok-settings.ensures.1 _ _ _ first.0
     (rw c.new-rows.ensures.items at c.in_ok-push.ensures.items) c.in_ok-push_rows.ensures.0
     c.in_ok-push_rows.ensures.1

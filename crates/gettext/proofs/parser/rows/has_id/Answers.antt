@@ -8,5 +8,5 @@ returns-then-not-is_empty c =
       sym c.is_empty.ensures
           ∙ c.if-not-is_empty.true,
       c.separator_place.ensures.value,
-      ends-place c.args.key.now,
+      ends-place _,
     ) refl

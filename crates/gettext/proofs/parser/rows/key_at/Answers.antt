@@ -18,7 +18,5 @@ returns-in_err-text c =
 
 pub returns : goal.returns
 returns c =
-    key_read c.args.bytes.now c.args.encoding c.args.index c.args.header.originals c.in_ok-text.text
-    c.in_ok-len.len c.requires.originals
-    c.in_ok-text.ensures.0 c.in_ok-text.ensures.1 c.in_ok-len.ensures.fault.0
-    c.in_ok-len.ensures.fault.1
+    key_read _ _ _ _ _ _ c.requires.originals c.in_ok-text.ensures.0 c.in_ok-text.ensures.1
+    c.in_ok-len.ensures.fault.0 c.in_ok-len.ensures.fault.1

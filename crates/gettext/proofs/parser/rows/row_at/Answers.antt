@@ -14,5 +14,5 @@ returns-in_err-key c =
 
 pub returns : goal.returns
 returns c =
-    row_read c.args.bytes.now c.args.encoding c.args.index c.in_ok-key.key c.in_ok-forms.forms
-    c.in_ok-key.ensures.0 c.in_ok-key.ensures.1 c.in_ok-forms.ensures.0 c.in_ok-forms.ensures.1
+    row_read _ _ _ _ _ c.in_ok-key.ensures.0 c.in_ok-key.ensures.1 c.in_ok-forms.ensures.0
+    c.in_ok-forms.ensures.1

@@ -25,15 +25,14 @@ chain-returns-in_err-left-clause-found t c =
 
 pub chain-loop-operator-init : goal.chain-loop-operator-init
 chain-loop-operator-init t c =
-    chain_begins c.args.budget c.requires.positive c.args.tokens.now c.args.level c.requires.binary
-    c.in_ok-left.left (rw c.tighter.ensures at c.in_ok-left.ensures.found) c.in_ok-left.ensures.low
+    chain_begins _ c.requires.positive _ _ c.requires.binary
+    _ (rw c.tighter.ensures at c.in_ok-left.ensures.found) c.in_ok-left.ensures.low
 
 pub chain-returns-then-left-budget-clause-found : goal.chain-returns-then-left-budget-clause-found
 chain-returns-then-left-budget-clause-found t c =
     inr (
       refl,
-      chain_full c.args.budget c.args.level c.args.tokens.now c.loop-operator.left
-          c.loop-operator.invariant c.in-Some.operator c.in-Some.rest.now c.in-Some.ensures
+      chain_full _ _ _ _ c.loop-operator.invariant _ _ c.in-Some.ensures
           c.if-left-budget.true,
     )
 
@@ -58,8 +57,7 @@ chain-loop-operator-preserved t c =
     c.in_ok-left-2.ensures
 
 pub chain-returns-clause-found : goal.chain-returns-clause-found
-chain-returns-clause-found t c = chain_ends c.args.budget c.args.level c.args.tokens.now
-    c.loop-operator.left c.loop-operator.invariant c.in_default.ensures
+chain-returns-clause-found t c = chain_ends _ _ _ _ c.loop-operator.invariant c.in_default.ensures
 
 pub conditional-returns-in_err-condition-clause-found
     : goal.conditional-returns-in_err-condition-clause-found
@@ -134,11 +132,7 @@ conditional-returns-clause-found t c =
 pub in_parentheses-returns-in_default-clause-found
     : goal.in_parentheses-returns-in_default-clause-found
 in_parentheses-returns-in_default-clause-found t c =
-    inr (
-      refl,
-      no_open c.args.budget c.requires.positive c.args.tokens.now c.requires.no_leaf
-          c.in_default.ensures,
-    )
+    inr (refl, no_open _ c.requires.positive _ c.requires.no_leaf c.in_default.ensures)
 
 pub in_parentheses-returns-in_err-inside-clause-found
     : goal.in_parentheses-returns-in_err-inside-clause-found
@@ -169,11 +163,11 @@ in_parentheses-returns-clause-found t c =
 
 pub part_at-returns-then-budget-eq0-clause-found : goal.part_at-returns-then-budget-eq0-clause-found
 part_at-returns-then-budget-eq0-clause-found t c =
-    inr (refl, rw c.if-budget-eq0.true (parse-zero c.args.level c.args.tokens.now))
+    inr (refl, rw c.if-budget-eq0.true (parse-zero _ _))
 
 pub unary-returns-in_default-clause-found : goal.unary-returns-in_default-clause-found
-unary-returns-in_default-clause-found t c = passed_on c.part_at.result _ _ c.part_at.ensures.found
-    (no_bang c.args.budget c.requires c.args.tokens.now c.in_default.ensures)
+unary-returns-in_default-clause-found t c =
+    passed_on _ _ _ c.part_at.ensures.found (no_bang _ c.requires _ c.in_default.ensures)
 
 pub unary-returns-in_err-operand-clause-found : goal.unary-returns-in_err-operand-clause-found
 unary-returns-in_err-operand-clause-found t c =

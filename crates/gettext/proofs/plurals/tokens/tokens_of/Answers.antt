@@ -18,5 +18,5 @@ loop-first-preserved c =
     rw (c.in_ok-push.ensures.items, take_rest) h
 
 pub returns-clause-ok : goal.returns-clause-ok
-returns-clause-ok c = all_read c.args.text.now c.loop-first.tokens.items c.loop-first.rest.now
-    (nil_from_length c.loop-first.rest.now c.in_default.ensures.cases) c.loop-first.invariant
+returns-clause-ok c =
+    all_read _ _ _ (nil_from_length _ c.in_default.ensures.cases) c.loop-first.invariant

@@ -33,4 +33,4 @@ returns-clause-value c =
     ) refl
 
 pub returns-clause-inside : goal.returns-clause-inside
-returns-clause-inside c = measured_inside c.args.text.now _ (sym (returns-clause-value c))
+returns-clause-inside c = measured_inside _ _ (sym (returns-clause-value c))

@@ -5,12 +5,9 @@ use Rattle.gettext.proofs.parser.settings.Settings.of_row.Goals as goal
 
 pub returns-then-has_id : goal.returns-then-has_id
 returns-then-has_id c =
-    let none = no_header c.args.bytes.now c.args.options c.args.row c.requires
-    (rw (← c.bytes_of.ensures) (sym c.has_id.ensures ∙ c.if-has_id.true)) in (
-      rw none c.plain.ensures,
-      holds c.args.options _ [] none _ _ c.plain.ensures.encoding
-          c.plain.ensures.rule,
-    )
+    let none = no_header _ _ _ c.requires
+    (rw (← c.bytes_of.ensures) (sym c.has_id.ensures ∙ c.if-has_id.true)) in
+    (rw none c.plain.ensures, holds _ _ [] none _ _ c.plain.ensures.encoding c.plain.ensures.rule)
 
 pub from_utf8_unchecked-requires : goal.from_utf8_unchecked-requires
 from_utf8_unchecked-requires c =

@@ -13,10 +13,10 @@ pub returns-clause-ok : goal.returns-clause-ok
 returns-clause-ok c =
     let read =
     rw (c.as_bytes.ensures.value, ← c.deref.ensures.value) at c.in_ok-tokens.ensures.ok in
-    parsed_ok c.args.src.now c.deref.result.now c.whole.result read c.whole.ensures.ok
+    parsed_ok _ _ _ read c.whole.ensures.ok
 
 pub returns-clause-err : goal.returns-clause-err
 returns-clause-err c =
     let read =
     rw (c.as_bytes.ensures.value, ← c.deref.ensures.value) at c.in_ok-tokens.ensures.ok in
-    parsed_err c.args.src.now c.deref.result.now c.whole.result c.utf8.src read c.whole.ensures.err
+    parsed_err _ _ _ c.utf8.src read c.whole.ensures.err
