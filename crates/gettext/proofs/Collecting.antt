@@ -62,16 +62,6 @@ keyed-insert b (e ∷ es) k r new all =
       )
       by_order Greater h rest = (all.0, rest)
 
--- an empty map has collected no row
-pub nothing_collected : (b : List ℕ) (rows : List Row) (found : BTreeMap (Bor (List ℕ)) Row)
-    → found.entries ≡ [] → Collects b (take 0 rows) found
-unfolding IsStrictlySortedBy
-nothing_collected b rows found e = record {
-  keyed = rw e tt;
-  ordered = rw e tt;
-  finds = λ q. rw e refl;
-}
-
 -- a row that goes into the map is collected
 pub collects_row : (b : List ℕ) (rows : List Row) (i : ℕ) (old new : BTreeMap (Bor (List ℕ)) Row)
     (k : Bor (List ℕ)) (r : Row) → take (i + 1) rows ≡ take i rows ++ r ∷ []

@@ -49,24 +49,7 @@ no_metadata o s e r p = record {
 -- ---- the conditions of metadata
 
 module _ (o : Options) (found : Option (List Field)) where
-  -- a line without a colon is the first fault of metadata
-  pub is_malformed : found ≡ None → first_failure (metadata_checks o found) ≡ Some MalformedMetadata
-  unfolding metadata_conditions
-  is_malformed e = rw e refl
-
   module _ (fields : List Field) (is : found ≡ Some fields) where
-    -- then an unknown charset
-    pub is_unknown : named_encoding o fields ≡ None
-        → first_failure (metadata_checks o found) ≡ Some UnknownEncoding
-    unfolding metadata_conditions
-    is_unknown n = rw (is, n) refl
-
-    -- then a text that is no expression
-    pub is_no_rule : (e : Encoding) → named_encoding o fields ≡ Some e → rule_of o fields ≡ None
-        → first_failure (metadata_checks o found) ≡ Some PluralParsing
-    unfolding metadata_conditions
-    is_no_rule e n r = rw (is, n, r) refl
-
     -- then there is none
     pub holds : (e : Encoding) (rule : Rule) → named_encoding o fields ≡ Some e
         → rule_of o fields ≡ Some rule → first_failure (metadata_checks o found) ≡ None

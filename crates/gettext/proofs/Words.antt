@@ -167,10 +167,6 @@ pub record IsReading (text : List ℕ) (tokens : List Token) (rest : List ℕ) :
   pub back : (us : List Token) → Reads text us
       → (ts : List Token) × Reads rest ts × (us ≡ tokens ++ ts)
 
--- at first nothing was read
-pub begins : (text : List ℕ) → IsReading text [] text
-begins text = record { on = λ ts r. r; back = λ us r. (us, r, refl) }
-
 -- behind white space the tokens are the same
 pub unspace : (c : ℕ) (t : List ℕ) (ts : List Token) → is_space c ≡ true → Reads (c ∷ t) ts
     → Reads t ts
@@ -223,15 +219,6 @@ passes_token text tokens rest c t k len e h at r =
                 ∙ sym (append_assoc tokens (k ∷ []) u.0),
           );
     }
-
--- where none begins, the text is no tokens
-pub unreadable : (text : List ℕ) (tokens : List Token) (rest : List ℕ) (c : ℕ) (t : List ℕ)
-    → rest ≡ c ∷ t → is_space c ≡ false → token_at rest ≡ None → IsReading text tokens rest
-    → IsUnreadable text
-unreadable text tokens rest c t e h at r =
-    let r' = rw e at r in
-    let at' = rw e at at in
-    record { none = λ us q. let b = r'.back us q in unread c t b.0 h at' b.1 }
 
 -- with nothing left, the tokens are those of the text
 pub all_read : (text : List ℕ) (tokens : List Token) (rest : List ℕ) → rest ≡ []
