@@ -258,3 +258,20 @@ module _ (n : ℕ) (lt : 0 < n) (ts : List Token) where
         pub inside_found : (vs : List Token) → Some vs ≡ after token.Close p.rest.now
             → parse n level.Atom ts ≡ Some (closed (found_of p) vs)
         inside_found vs shut = rw (parse-atom n lt ts, no_leaf, ← opened, inside, ← shut) refl
+
+-- ---- what the search needs
+
+-- a part of a binary level, and the operators that follow it
+pub ruleset chains = (chain_fails, chain_begins, chain_ends, chain_full, chain_breaks, chain_grows)
+
+-- a condition, or where none stands
+pub ruleset conditions = (choice_fails, no_choice, choice_full, choice_breaks, choice_ends)
+
+-- an atom: a leaf, or a condition in parentheses
+pub ruleset atoms = (leaf_found, no_open, inside_fails, no_close, inside_found)
+
+-- a unary part, or a part of no height
+pub ruleset units = (no_bang, operand_fails, operand_found, parse-zero, passed_on)
+
+-- how a part is read, level by level
+pub ruleset parsed = (fails_by, made, no_colon, choice_found, atoms, units, chains, conditions)

@@ -200,11 +200,6 @@ pub record IsDecoding (b : List ℕ) (first later : Encoding) (rows : List Row) 
   pub messages : map (message_at texts) decoded ++ decoded_messages b e later left
       ≡ decoded_messages b first later rows
 
--- before the first row nothing is decoded
-pub none_decoded : (b : List ℕ) (first later : Encoding) (rows : List Row)
-    → AreRowsIn b first later rows → IsDecoding b first later rows [] [] first rows
-none_decoded b first later rows h = record { left_fit = h; fit = tt; messages = refl }
-
 -- a row more is decoded
 pub row_decoded : (b : List ℕ) (first later : Encoding) (rows : List Row) (texts new : List ℕ)
     (decoded : List Row) (e : Encoding) (r d : Row) (left : List Row) → AreBytes b

@@ -193,12 +193,6 @@ untoken c t us k len h at (token {t = t'} {len = len'} {tokens = ts} e at' r) =
     subst (λ (p : Token × ℕ). (us : List Token) × Reads (drop p.1 (c ∷ t)) us
     × (t' ∷ ts ≡ p.0 ∷ us)) same (ts, r, refl)
 
--- where no token begins there are none
-unread : (c : ℕ) (t : List ℕ) (us : List Token) → is_space c ≡ false → token_at (c ∷ t) ≡ None
-    → Reads (c ∷ t) us → ⊥
-unread c t us h at (space e r) = cc
-unread c t us h at (token e at' r) = cc
-
 -- a token is read
 pub passes_token : (text : List ℕ) (tokens : List Token) (rest : List ℕ) (c : ℕ) (t : List ℕ)
     (k : Token) (len : ℕ) → rest ≡ c ∷ t → is_space c ≡ false → token_at rest ≡ Some (k, len)

@@ -114,6 +114,7 @@ pub struct Part<'a> {
 
 /// The part of a level that the tokens begin with, if its height is at most `budget`.
 #[cycle(grammar)]
+#[tactic(auto, using(crate::proofs::Chains::parsed))]
 pub fn part_at(
     alloc: Global,
     tokens: &[Token],
@@ -135,6 +136,7 @@ pub fn part_at(
 }
 
 #[cycle(grammar)]
+#[tactic(auto, using(crate::proofs::Chains::parsed))]
 fn atom(alloc: Global, tokens: &[Token], budget: u32) -> Result<Part<'_>, Error>
     requires { 0 < budget }
     ensures found { IsParsed found_of result (parse budget Level.Atom tokens.now) }
@@ -147,6 +149,7 @@ fn atom(alloc: Global, tokens: &[Token], budget: u32) -> Result<Part<'_>, Error>
 }
 
 #[cycle(grammar)]
+#[tactic(auto, using(crate::proofs::Chains::parsed))]
 fn in_parentheses(alloc: Global, tokens: &[Token], budget: u32) -> Result<Part<'_>, Error>
     requires positive { 0 < budget }
     requires no_leaf { leaf_at tokens.now ≡ None }
@@ -164,6 +167,7 @@ fn in_parentheses(alloc: Global, tokens: &[Token], budget: u32) -> Result<Part<'
 }
 
 #[cycle(grammar)]
+#[tactic(auto, using(crate::proofs::Chains::parsed))]
 fn unary(alloc: Global, tokens: &[Token], budget: u32) -> Result<Part<'_>, Error>
     requires { 0 < budget }
     ensures found { IsParsed found_of result (parse budget Level.Unary tokens.now) }
@@ -178,6 +182,7 @@ fn unary(alloc: Global, tokens: &[Token], budget: u32) -> Result<Part<'_>, Error
 
 /// Parts of the next tighter level with operators of this level between them, from left to right.
 #[cycle(grammar)]
+#[tactic(auto, using(crate::proofs::Chains::parsed))]
 fn chain(alloc: Global, tokens: &[Token], level: Level, budget: u32) -> Result<Part<'_>, Error>
     requires positive { 0 < budget }
     requires binary { IsBinary level }
@@ -196,6 +201,7 @@ fn chain(alloc: Global, tokens: &[Token], level: Level, budget: u32) -> Result<P
 }
 
 #[cycle(grammar)]
+#[tactic(auto, using(crate::proofs::Chains::parsed))]
 fn conditional(alloc: Global, tokens: &[Token], budget: u32) -> Result<Part<'_>, Error>
     requires { 0 < budget }
     ensures found { IsParsed found_of result (parse budget Level.Conditional tokens.now) }

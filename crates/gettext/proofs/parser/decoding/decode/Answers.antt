@@ -1,5 +1,5 @@
 use Rattle.std.proofs.lemmas.List.{drop_more, drop_all}
-use Rattle.gettext.proofs.DecodedRows.{none_decoded, row_decoded, all_decoded}
+use Rattle.gettext.proofs.DecodedRows.{row_decoded, all_decoded}
 use Rattle.gettext.proofs.parser.decoding.decode.Goals as goal
 
 pub loop-row-preserved : goal.loop-row-preserved

@@ -28,8 +28,8 @@ sorted-requires c =
 
 pub returns-then-is_in_utf8 : goal.returns-then-is_in_utf8
 returns-then-is_in_utf8 c =
-    let none =
-    all_pass _ _ _ c.in_ok-header.ensures.0.count c.in_ok-header.ensures.1 c.in_ok-rows.ensures.1 in (
+    let none = all_pass _ _ _ c.in_ok-header.ensures.0.count c.in_ok-header.ensures.1
+    c.in_ok-rows.ensures.1 in (
       file_in_place _ _ _ _ _ c.in_ok-rows.ensures.0
           _ (c.len.ensures ∙ c.in_ok-rows.field-0.rows.ok.0) c.in_ok-header.ensures.0.count none
           _ (rw (← c.first_encoding-first.ensures)
