@@ -1,4 +1,5 @@
 pub mod Lists
+pub mod Memory
 pub mod Conditions
 pub mod Rows
 pub mod Keys

@@ -1,5 +1,7 @@
 -- The encodings of texts, and the labels that name them (WHATWG Encoding, 'Names and labels').
-use Rattle.std.specs.Prelude.{◌≡◌, ℕ, ◌-◌, Bool, true, ◌&&◌, List, [], ◌∷◌, map, codes, Option, Some, None, length, take, drop, nat_eq, nat_le, if◌then◌else◌, get_or, encode_utf8_all}
+use Rattle.std.specs.Prelude.{◌≡◌, ℕ, ◌-◌, Bool, true, ◌&&◌, List, [], ◌∷◌, map, codes, Option}
+use Rattle.std.specs.Prelude.{Some, None, length, take, drop, nat_eq, nat_le, if◌then◌else◌, get_or}
+use Rattle.std.specs.Prelude.{encode_utf8_all}
 use Rattle.std.specs.List.{list_any, prefix_len, suffix_len}
 use Rattle.std.specs.Char.{is_ascii_whitespace, to_ascii_lowercase}
 use Rattle.std.specs.Str.{is_utf8, all_scalars, chars}
@@ -18,7 +20,9 @@ high_characters =
 
 -- the character of a byte in windows-1252
 unfoldable pub windows_1252 : ℕ → ℕ
-windows_1252 byte = if nat_le 0x80 byte && nat_le byte 0x9F then get_or high_characters (byte - 0x80) byte else byte
+windows_1252 byte =
+    if nat_le 0x80 byte && nat_le byte 0x9F
+    then get_or high_characters (byte - 0x80) byte else byte
 
 -- the bytes are the text in that encoding
 abbrev pub IsText : Encoding → List ℕ → List ℕ → Type 0
@@ -52,8 +56,9 @@ utf_8_labels = codes "utf-8" ∷ codes "utf8" ∷ codes "unicode-1-1-utf-8" ∷ 
 abbrev pub windows_1252_labels : List (List ℕ)
 windows_1252_labels =
     codes "ascii" ∷ codes "us-ascii" ∷ codes "ansi_x3.4-1968" ∷ codes "cp819" ∷ codes "ibm819"
-    ∷ codes "iso-8859-1" ∷ codes "iso8859-1" ∷ codes "iso88591" ∷ codes "iso_8859-1" ∷ codes "iso_8859-1:1987"
-    ∷ codes "iso-ir-100" ∷ codes "csisolatin1" ∷ codes "l1" ∷ codes "latin1" ∷ codes "windows-1252" ∷ codes "cp1252" ∷ codes "x-cp1252"
+    ∷ codes "iso-8859-1" ∷ codes "iso8859-1" ∷ codes "iso88591" ∷ codes "iso_8859-1"
+    ∷ codes "iso_8859-1:1987" ∷ codes "iso-ir-100" ∷ codes "csisolatin1" ∷ codes "l1"
+    ∷ codes "latin1" ∷ codes "windows-1252" ∷ codes "cp1252" ∷ codes "x-cp1252"
     ∷ []
 
 -- whether a label is one of some
@@ -70,7 +75,9 @@ trimmed label = without_end (drop (prefix_len is_ascii_whitespace label) label)
 
 -- the encoding that has such a label, in lower case
 abbrev pub encoding_named : List ℕ → Option Encoding
-encoding_named name = if is_among utf_8_labels name then Some Utf8 else if is_among windows_1252_labels name then Some Windows1252 else None
+encoding_named name =
+    if is_among utf_8_labels name then Some Utf8
+    else if is_among windows_1252_labels name then Some Windows1252 else None
 
 -- the encoding that a label names, without case and ASCII white space around it
 unfoldable pub encoding_of : List ℕ → Option Encoding

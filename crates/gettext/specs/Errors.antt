@@ -3,7 +3,10 @@ use Rattle.std.specs.Prelude.{ℕ, List, codes}
 use Rattle.reading.specs.declared.error.ReadError.{ReadError}
 use Rattle.reading.specs.declared.error.ReadError.TheVariants as reading
 use Rattle.gettext.specs.declared.error.Error.{Error}
-use Rattle.gettext.specs.declared.error.Error.TheVariants.{BadMagic, DecodingError, Eof, Io, MalformedMetadata, MisplacedMetadata, PluralParsing, UnknownEncoding, TooLong, NoMemory}
+use Rattle.gettext.specs.declared.error.Error.TheVariants.{BadMagic, DecodingError, Eof, Io}
+use Rattle.gettext.specs.declared.error.Error.TheVariants.{MalformedMetadata, MisplacedMetadata}
+use Rattle.gettext.specs.declared.error.Error.TheVariants.{PluralParsing, UnknownEncoding, TooLong}
+use Rattle.gettext.specs.declared.error.Error.TheVariants.{NoMemory}
 
 -- what `Error::text` says
 abbrev pub words_of : Error → List ℕ

@@ -1,10 +1,17 @@
 -- Plural expressions as trees, and their meaning over unsigned numbers of 64 bits, as in C
 -- (GNU gettext manual, 'Additional functions for plural forms').
-use Rattle.std.specs.Prelude.{ℕ, ◌+◌, ◌-◌, ◌*◌, ◌/◌, ◌%◌, ◌^◌, Bool, not, ◌&&◌, ◌||◌, Option, Some, None, ◌==◌, nat_lt, nat_le, if◌then◌else◌}
+use Rattle.std.specs.Prelude.{ℕ, ◌+◌, ◌-◌, ◌*◌, ◌/◌, ◌%◌, ◌^◌, Bool, not, ◌&&◌, ◌||◌, Option, Some}
+use Rattle.std.specs.Prelude.{None, ◌==◌, nat_lt, nat_le, if◌then◌else◌}
 use Rattle.gettext.specs.declared.plurals.expression.Ast.{Ast}
-use Rattle.gettext.specs.declared.plurals.expression.Ast.TheVariants.{N, Integer, Ternary', Op', Not'}
+use Rattle.gettext.specs.declared.plurals.expression.Ast.TheVariants.{N, Integer, Ternary', Op'}
+use Rattle.gettext.specs.declared.plurals.expression.Ast.TheVariants.{Not'}
 use Rattle.gettext.specs.declared.plurals.expression.Operator.{Operator}
-use Rattle.gettext.specs.declared.plurals.expression.Operator.TheVariants.{Equal, NotEqual, GreaterOrEqual, SmallerOrEqual, Greater, Smaller, And, Or, Modulo, Add, Subtract, Multiply, Divide}
+use Rattle.gettext.specs.declared.plurals.expression.Operator.TheVariants.{Equal, NotEqual}
+use Rattle.gettext.specs.declared.plurals.expression.Operator.TheVariants.{GreaterOrEqual}
+use Rattle.gettext.specs.declared.plurals.expression.Operator.TheVariants.{SmallerOrEqual, Greater}
+use Rattle.gettext.specs.declared.plurals.expression.Operator.TheVariants.{Smaller, And, Or, Modulo}
+use Rattle.gettext.specs.declared.plurals.expression.Operator.TheVariants.{Add, Subtract, Multiply}
+use Rattle.gettext.specs.declared.plurals.expression.Operator.TheVariants.{Divide}
 use Rattle.gettext.specs.Optional.{◌>>=◌}
 
 -- an expression, without where its parts lie in memory
@@ -51,7 +58,8 @@ apply Subtract x y = Some ((x + (2 ^ 64 - y)) % 2 ^ 64)
 apply Multiply x y = Some (x * y % 2 ^ 64)
 apply Divide x y = divided ◌/◌ x y
 
--- An operator after its left part: `&&` needs no right part where the left is 0, and `||` none where it isn't.
+-- An operator after its left part: `&&` needs no right part where the left is 0, and `||` none
+-- where it isn't.
 abbrev pub after_left : Operator → ℕ → Option ℕ → Option ℕ
 after_left And x right = if x == 0 then Some 0 else (right >>= λ y. Some (truth (is_true y)))
 after_left Or x right = if x == 0 then (right >>= λ y. Some (truth (is_true y))) else Some 1

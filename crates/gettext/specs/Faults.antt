@@ -1,20 +1,25 @@
--- What is wrong with the bytes of an MO file: the first condition that fails, in the order of the format.
-use Rattle.std.specs.Prelude.{ℕ, zero, suc, ◌+◌, Bool, true, false, ◌||◌, List, [], ◌∷◌, ◌++◌, length, take, Option, Some, None, is_some, nat_le, ◌==◌}
+-- What is wrong with the bytes of an MO file: the first condition that fails, in the order of the
+-- format.
+use Rattle.std.specs.Prelude.{◌≡◌, ℕ, zero, suc, ◌+◌, Bool, ◌||◌, List, [], ◌∷◌, ◌++◌}
+use Rattle.std.specs.Prelude.{length, take, Option, is_some, nat_le, ◌==◌}
 use Rattle.std.specs.List.{list_any, list_all}
-use Rattle.std.specs.Option.{option_map, unwrap_or}
-use Rattle.std.specs.Str.{chars}
+use Rattle.std.specs.Option.{unwrap_or}
+use Rattle.std.specs.Bool.{Decides}
 use Rattle.writeable_core.specs.FirstFailure.{Condition, first_failure}
 use Rattle.gettext.specs.declared.error.Error.{Error}
-use Rattle.gettext.specs.declared.error.Error.TheVariants.{BadMagic, DecodingError, Eof, MalformedMetadata, MisplacedMetadata, PluralParsing, UnknownEncoding}
+use Rattle.gettext.specs.declared.error.Error.TheVariants.{BadMagic, DecodingError, Eof}
+use Rattle.gettext.specs.declared.error.Error.TheVariants.{MalformedMetadata, MisplacedMetadata}
+use Rattle.gettext.specs.declared.error.Error.TheVariants.{PluralParsing, UnknownEncoding}
 use Rattle.gettext.specs.declared.encoding.Encoding.{Encoding}
 use Rattle.writeable_core.specs.Texts.{same_text}
 use Rattle.gettext.specs.Options.{Options}
 use Rattle.gettext.specs.Encoding.{is_valid}
 use Rattle.gettext.specs.Metadata.{Field}
-use Rattle.gettext.specs.Parsing.{expression_of}
-use Rattle.gettext.specs.Messages.{Rule, Default, Expr, Function, has_id}
-use Rattle.gettext.specs.Layout.{is_nul, little_endian, big_endian, count_of, originals_of, translations_of, row_place, text_length, text_offset, original_of, translation_of, head_of, pieces_of}
-use Rattle.gettext.specs.Mo.{plural_of, named_encoding, first_encoding, fields_in_file, later_encoding}
+use Rattle.gettext.specs.Messages.{Rule, has_id}
+use Rattle.gettext.specs.Layout.{is_nul, little_endian, big_endian, count_of, originals_of}
+use Rattle.gettext.specs.Layout.{translations_of, row_place, text_length, text_offset, original_of}
+use Rattle.gettext.specs.Layout.{translation_of, head_of, pieces_of}
+use Rattle.gettext.specs.Mo.{IsRule, named_encoding, first_encoding, fields_in_file, later_encoding}
 
 -- what may be wrong with the bytes of a file
 abbrev pub IsMoFault : Error → Type 0
@@ -57,11 +62,13 @@ forms_conditions e translation = (list_all (is_valid e) (pieces_of translation),
 
 -- of row i among the originals
 unfoldable pub original_conditions : List ℕ → Encoding → ℕ → List (Condition Error)
-original_conditions b e i = text_conditions b (originals_of b) i ++ head_conditions e i (original_of b i)
+original_conditions b e i =
+    text_conditions b (originals_of b) i ++ head_conditions e i (original_of b i)
 
 -- of row i among the translations
 unfoldable pub translation_conditions : List ℕ → Encoding → ℕ → List (Condition Error)
-translation_conditions b e i = text_conditions b (translations_of b) i ++ forms_conditions e (translation_of b i)
+translation_conditions b e i =
+    text_conditions b (translations_of b) i ++ forms_conditions e (translation_of b i)
 
 -- of row i
 unfoldable pub row_conditions : List ℕ → Encoding → ℕ → List (Condition Error)
@@ -72,30 +79,34 @@ unfoldable pub rows_conditions : List ℕ → Encoding → ℕ → ℕ → List 
 rows_conditions b e i zero = []
 rows_conditions b e i (suc n) = row_conditions b e i ++ rows_conditions b e (suc i) n
 
--- the same as a function: none where the text is no expression
-abbrev pub rule_by : Bool → Option (List ℕ) → Option Rule
-rule_by true plural = Some Function
-rule_by false None = Some Default
-rule_by false (Some plural) = option_map Expr (expression_of (chars plural))
-
--- the rule of a file with these fields, where there is one
-abbrev pub rule_of : Options → List Field → Option Rule
-rule_of o fields = rule_by o.forced (plural_of fields)
-
--- of the metadata
-unfoldable pub metadata_conditions : Options → Option (List Field) → List (Condition Error)
-metadata_conditions o fields =
+-- Of the metadata. Whether a file has a rule is told: `mo_fault` says by what.
+unfoldable pub metadata_conditions : Options → Option (List Field) → Bool → List (Condition Error)
+metadata_conditions o fields ruled =
     (is_some fields, MalformedMetadata)
     ∷ (is_some (named_encoding o (unwrap_or fields [])), UnknownEncoding)
-    ∷ (is_some (rule_of o (unwrap_or fields [])), PluralParsing)
+    ∷ (ruled, PluralParsing)
     ∷ []
 
 -- of n rows
-unfoldable pub all_rows_conditions : List ℕ → Options → ℕ → List (Condition Error)
-all_rows_conditions b o zero = []
-all_rows_conditions b o (suc n) =
-    row_conditions b (first_encoding o) 0 ++ (metadata_conditions o (fields_in_file b o) ++ rows_conditions b (later_encoding b o) 1 n)
+unfoldable pub all_rows_conditions : List ℕ → Options → Bool → ℕ → List (Condition Error)
+all_rows_conditions b o ruled zero = []
+all_rows_conditions b o ruled (suc n) =
+    row_conditions b (first_encoding o) 0
+    ++ (metadata_conditions o (fields_in_file b o) ruled
+    ++ rows_conditions b (later_encoding b o) 1 n)
 
--- the first condition that fails
-unfoldable pub mo_fault : List ℕ → Options → Option Error
-mo_fault b o = first_failure (header_conditions b ++ all_rows_conditions b o (count_of b))
+-- the first condition that fails, where it is told whether the file has a rule
+unfoldable pub first_fault : List ℕ → Options → Bool → Option Error
+first_fault b o ruled =
+    first_failure (header_conditions b ++ all_rows_conditions b o ruled (count_of b))
+
+-- The file has a rule: where none is forced, a plural expression that is there is in the grammar.
+abbrev pub HasRule : List ℕ → Options → Type 0
+HasRule b o = (rule : Rule) × IsRule o (unwrap_or (fields_in_file b o) []) rule
+
+-- What is wrong with the bytes of a file, if anything: the first condition that fails. That the
+-- file has a rule is one of the conditions, and the grammar decides it.
+pub record mo_fault (b : List ℕ) (o : Options) (fault : Option Error) : Type 0 where
+  pub ruled : Bool
+  pub decided : Decides ruled (HasRule b o)
+  pub first : first_fault b o ruled ≡ fault

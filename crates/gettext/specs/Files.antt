@@ -1,5 +1,6 @@
 -- What reading a whole file gives. Private contracts cite it.
-use Rattle.std.specs.Prelude.{◌≡◌, ℕ, zero, suc, Bool, true, false, ◌&&◌, List, [], Option, Some, None, Vec}
+use Rattle.std.specs.Prelude.{◌≡◌, ℕ, zero, suc, Bool, true, false, ◌&&◌, List, [], Option, Some}
+use Rattle.std.specs.Prelude.{None, Vec}
 use Rattle.std.specs.Option.{unwrap_or}
 use Rattle.std.specs.declared.alloc.Global.{Global}
 use Rattle.gettext.specs.declared.parser.reader.File.{File}
@@ -22,7 +23,8 @@ found_fields b o zero = Some []
 found_fields b o (suc n) = fields_in_file b o
 
 -- n rows of a file in their order, and what its metadata settle
-pub record AreFileRows (b : List ℕ) (o : Options) (n : ℕ) (rows : List Row) (s : Settings) : Type 0 where
+pub record AreFileRows (b : List ℕ) (o : Options) (n : ℕ) (rows : List Row)
+    (s : Settings) : Type 0 where
   pub are : rows ≡ rows_from b 0 n
   pub fit : AreRowsIn b (first_encoding o) s.encoding (rows_from b 0 n)
   pub settings : IsSettings o (unwrap_or (found_fields b o n) []) s
@@ -44,8 +46,11 @@ abbrev pub buffer_of : List ℕ → Option (Vec ℕ Global) → List ℕ
 buffer_of b None = b
 buffer_of b (Some texts) = texts.items
 
--- what is read of a file stands for what the file means, and decodes nothing where every row is in UTF-8
+-- what is read of a file stands for what the file means, and decodes nothing where every row is in
+-- UTF-8
 pub record IsFile (b : List ℕ) (o : Options) (file : File) : Type 0 where
-  pub keeps : Keeps (buffer_of b file.texts) file.rows.items file.settings.rule file.settings.plurals
-  pub stands : (c : Messages) → entries b o c → StandsFor (messages_of (held (buffer_of b file.texts) file.rows.items file.settings.rule)) c
+  pub keeps : Keeps (buffer_of b file.texts) file.rows.items file.settings.rule
+      file.settings.plurals
+  pub stands : (c : Messages) → entries b o c
+      → StandsFor (messages_of (held (buffer_of b file.texts) file.rows.items file.settings.rule)) c
   pub plain : IsInUtf8 b o → file.texts ≡ None

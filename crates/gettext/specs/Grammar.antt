@@ -1,7 +1,13 @@
--- The grammar of plural expressions in levels, as in C (GNU gettext manual, 'Additional functions for plural forms').
+-- The grammar of plural expressions in levels, as in C (GNU gettext manual, 'Additional functions
+-- for plural forms').
 use Rattle.std.specs.Prelude.{◌≡◌, ◌≢◌, ℕ, ◌+◌, ◌≤◌, max, List, [], ◌∷◌, ◌++◌}
 use Rattle.gettext.specs.declared.plurals.expression.Operator.{Operator}
-use Rattle.gettext.specs.declared.plurals.expression.Operator.TheVariants.{Equal, NotEqual, GreaterOrEqual, SmallerOrEqual, Greater, Smaller, And, Or, Modulo, Add, Subtract, Multiply, Divide}
+use Rattle.gettext.specs.declared.plurals.expression.Operator.TheVariants.{Equal, NotEqual}
+use Rattle.gettext.specs.declared.plurals.expression.Operator.TheVariants.{GreaterOrEqual}
+use Rattle.gettext.specs.declared.plurals.expression.Operator.TheVariants.{SmallerOrEqual, Greater}
+use Rattle.gettext.specs.declared.plurals.expression.Operator.TheVariants.{Smaller, And, Or, Modulo}
+use Rattle.gettext.specs.declared.plurals.expression.Operator.TheVariants.{Add, Subtract, Multiply}
+use Rattle.gettext.specs.declared.plurals.expression.Operator.TheVariants.{Divide}
 use Rattle.gettext.specs.declared.plurals.tokens.Token.{Token}
 use Rattle.gettext.specs.declared.plurals.tokens.Token.TheVariants as token
 use Rattle.gettext.specs.declared.plurals.grammar.Level.{Level}
@@ -49,18 +55,26 @@ level_of NotEqual = level.Equality
 level_of And = level.Conjunction
 level_of Or = level.Disjunction
 
--- The tokens are a part of that level, with its tree and its height. Binary operators associate to the left, and
--- `? :` to the right. A leaf has height 1, and an operator or a pair of parentheses adds 1 to its highest part.
+-- The tokens are a part of that level, with its tree and its height. Binary operators associate to
+-- the left, and `? :` to the right. A leaf has height 1, and an operator or a pair of parentheses
+-- adds 1 to its highest part.
 pub data IsPart : Level → List Token → Expression → ℕ → Type 0 where
   name : IsPart level.Atom (token.Name ∷ []) Count 1
   numeral : {k : ℕ} → IsPart level.Atom (token.Numeral k ∷ []) (Number k) 1
-  parentheses : {ts : List Token} {e : Expression} {h : ℕ} → IsPart level.Conditional ts e h → IsPart level.Atom (token.Open ∷ ts ++ token.Close ∷ []) e (h + 1)
-  negation : {ts : List Token} {e : Expression} {h : ℕ} → IsPart level.Unary ts e h → IsPart level.Unary (token.Bang ∷ ts) (Negation e) (h + 1)
-  binary : {l : Level} {o : Operator} {xs ys : List Token} {a b : Expression} {g h : ℕ} → level_of o ≡ l → IsPart l xs a g → IsPart (tighter l) ys b h
+  parentheses : {ts : List Token} {e : Expression} {h : ℕ} → IsPart level.Conditional ts e h
+      → IsPart level.Atom (token.Open ∷ ts ++ token.Close ∷ []) e (h + 1)
+  negation : {ts : List Token} {e : Expression} {h : ℕ} → IsPart level.Unary ts e h
+      → IsPart level.Unary (token.Bang ∷ ts) (Negation e) (h + 1)
+  binary : {l : Level} {o : Operator} {xs ys : List Token} {a b : Expression} {g h : ℕ}
+      → level_of o ≡ l → IsPart l xs a g → IsPart (tighter l) ys b h
       → IsPart l (xs ++ token.Operator o ∷ ys) (Binary o a b) (max g h + 1)
-  conditional : {ts xs ys : List Token} {c a b : Expression} {f g h : ℕ} → IsPart level.Disjunction ts c f → IsPart level.Conditional xs a g → IsPart level.Conditional ys b h
-      → IsPart level.Conditional (ts ++ token.Question ∷ (xs ++ token.Colon ∷ ys)) (Conditional c a b) (max f (max g h) + 1)
-  looser : {l : Level} {ts : List Token} {e : Expression} {h : ℕ} → l ≢ level.Atom → IsPart (tighter l) ts e h → IsPart l ts e h
+  conditional : {ts xs ys : List Token} {c a b : Expression} {f g h : ℕ}
+      → IsPart level.Disjunction ts c f → IsPart level.Conditional xs a g
+      → IsPart level.Conditional ys b h
+      → IsPart level.Conditional (ts ++ token.Question ∷ (xs ++ token.Colon ∷ ys))
+      (Conditional c a b) (max f (max g h) + 1)
+  looser : {l : Level} {ts : List Token} {e : Expression} {h : ℕ} → l ≢ level.Atom
+      → IsPart (tighter l) ts e h → IsPart l ts e h
 
 -- the greatest height of an expression
 abbrev pub height_limit : ℕ

@@ -1,6 +1,7 @@
--- What stands where in the bytes of an MO file (GNU gettext manual, section 10.3). Numbers have four bytes, in the order
--- that the magic number names.
-use Rattle.std.specs.Prelude.{ℕ, ◌+◌, ◌*◌, ◌≤◌, Bool, List, [], ◌∷◌, length, take, drop, ◌==◌, if◌then◌else◌}
+-- What stands where in the bytes of an MO file (GNU gettext manual, section 10.3). Numbers have
+-- four bytes, in the order that the magic number names.
+use Rattle.std.specs.Prelude.{ℕ, ◌+◌, ◌*◌, ◌≤◌, Bool, List, [], ◌∷◌, length, take, drop, ◌==◌}
+use Rattle.std.specs.Prelude.{if◌then◌else◌}
 use Rattle.std.specs.Int.{w32, from_le_bytes, from_be_bytes}
 use Rattle.std.specs.List.{before_first, slice_split}
 use Rattle.writeable_core.specs.Texts.{same_text}
@@ -23,9 +24,12 @@ is_big_endian b = same_text (take 4 b) big_endian
 
 -- the number whose four bytes begin at a place
 unfoldable pub number : List ℕ → ℕ → ℕ
-number b at = if is_big_endian b then from_be_bytes w32 (take 4 (drop at b)) else from_le_bytes w32 (take 4 (drop at b))
+number b at =
+    if is_big_endian b then from_be_bytes w32 (take 4 (drop at b))
+    else from_le_bytes w32 (take 4 (drop at b))
 
--- how many strings there are, and where the table of the originals and that of the translations start
+-- how many strings there are, and where the table of the originals and that of the translations
+-- start
 abbrev pub count_of : List ℕ → ℕ
 count_of b = number b 8
 
@@ -37,7 +41,8 @@ originals_of b = number b 12
 abbrev pub translations_of : List ℕ → ℕ
 translations_of b = number b 16
 
--- Row i of the table that starts at a place is the length of a text, and behind it the text's offset.
+-- Row i of the table that starts at a place is the length of a text, and behind it the text's
+-- offset.
 abbrev pub row_place : ℕ → ℕ → ℕ
 row_place table i = table + 8 * i
 

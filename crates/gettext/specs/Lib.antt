@@ -13,6 +13,7 @@ pub mod Layout
 pub mod Mo
 pub mod MoLaws
 pub mod Faults
+pub mod Checks
 pub mod Settings
 pub mod Table
 pub mod Reader

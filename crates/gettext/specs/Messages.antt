@@ -1,5 +1,7 @@
 -- What a catalog of messages means, apart from any file. A text is a list of characters.
-use Rattle.std.specs.Prelude.{◌≡◌, ℕ, Bool, true, false, not, ◌&&◌, List, [], ◌∷◌, ◌++◌, length, codes, Option, Some, None, ◌==◌, nat_lt, if◌then◌else◌, encode_utf8_all}
+use Rattle.std.specs.Prelude.{◌≡◌, ℕ, Bool, true, false, not, ◌&&◌, List, [], ◌∷◌, ◌++◌, length}
+use Rattle.std.specs.Prelude.{codes, Option, Some, None, ◌==◌, nat_lt, if◌then◌else◌}
+use Rattle.std.specs.Prelude.{encode_utf8_all}
 use Rattle.std.specs.Option.{option_or, option_map, option_and_then}
 use Rattle.std.specs.List.{slice_get}
 use Rattle.std.specs.Borrow.{Bor}
@@ -61,7 +63,8 @@ pub record StandsFor (kept c : Messages) : Type 0 where
 
 -- ---- forms
 
--- the number of the form for n by an expression, or by the default rule: 0 for 1, and 1 for every other count
+-- the number of the form for n by an expression, or by the default rule: 0 for 1, and 1 for every
+-- other count
 abbrev pub value_by : Option Expression → ℕ → Option ℕ
 value_by None n = Some (if n == 1 then 0 else 1)
 value_by (Some e) n = value e n
@@ -72,7 +75,8 @@ value_of_rule Default n = value_by None n
 value_of_rule (Expr e) n = value_by (Some e) n
 value_of_rule Function n = None
 
--- The number of the form for n. Where a function is forced, the number that it answered at n is given.
+-- The number of the form for n. Where a function is forced, the number that it answered at n is
+-- given.
 abbrev pub number_for : Rule → Option ℕ → ℕ → Option ℕ
 number_for rule (Some number) n = Some number
 number_for rule None n = value_of_rule rule n
@@ -94,7 +98,8 @@ plurals_of text = fields_of (encode_utf8_all text) >>= plurals_among
 abbrev pub plurals_named : Message → Option ℕ
 plurals_named m = slice_get m.forms 0 >>= plurals_of
 
--- what the numbers of forms are below, where something bounds them: a forced function's aren't bounded
+-- what the numbers of forms are below, where something bounds them: a forced function's aren't
+-- bounded
 abbrev pub bound_by : Rule → List Message → Option ℕ
 bound_by Function pairs = None
 bound_by Default pairs = header_of pairs >>= plurals_named
@@ -120,8 +125,8 @@ numbered c key number = do
 unfoldable pub numbered_within : Messages → List ℕ → ℕ → Option (ℕ × List ℕ)
 numbered_within c key number = if is_within (bound c) number then numbered c key number else None
 
--- The form for n of the message with the key, as its number and its text. Given is the number that a forced function
--- answered at n, where one is forced.
+-- The form for n of the message with the key, as its number and its text. Given is the number that
+-- a forced function answered at n, where one is forced.
 unfoldable pub form : Messages → Option ℕ → List ℕ → ℕ → Option (ℕ × List ℕ)
 form c given key n = do
   number ← number_for c.rule given n

@@ -1,6 +1,7 @@
--- The metadata of a catalog: the translation of the empty id (GNU gettext manual, 'Filling in the Header Entry').
--- Texts are given by their bytes in UTF-8. All that they are cut at is ASCII.
-use Rattle.std.specs.Prelude.{ℕ, ◌^◌, Bool, not, ◌&&◌, ◌||◌, List, [], ◌∷◌, length, drop, map, codes, Option, Some, None, nat_lt, nat_eq, ◌==◌, if◌then◌else◌}
+-- The metadata of a catalog: the translation of the empty id (GNU gettext manual, 'Filling in the
+-- Header Entry'). Texts are given by their bytes in UTF-8. All that they are cut at is ASCII.
+use Rattle.std.specs.Prelude.{ℕ, ◌^◌, Bool, not, ◌&&◌, ◌||◌, List, [], ◌∷◌, length, drop, map}
+use Rattle.std.specs.Prelude.{codes, Option, Some, None, nat_lt, nat_eq, ◌==◌, if◌then◌else◌}
 use Rattle.std.specs.Option.{option_map, option_or, option_and_then}
 use Rattle.std.specs.List.{list_all, slice_split, starts_with}
 use Rattle.std.specs.Char.{is_ascii_digit}
@@ -70,7 +71,9 @@ value_of fields name = last_value (same_text name) fields
 -- what stands behind the first place of a word, and what before it
 abbrev pub after_word : List ℕ → List ℕ → Option (List ℕ)
 after_word word [] = None
-after_word word (c ∷ cs) = if starts_with nat_eq (c ∷ cs) word then Some (drop (length word) (c ∷ cs)) else after_word word cs
+after_word word (c ∷ cs) =
+    if starts_with nat_eq (c ∷ cs) word then Some (drop (length word) (c ∷ cs))
+    else after_word word cs
 
 -- what stands before the first place of a word, or the whole text
 abbrev pub before_word : List ℕ → List ℕ → List ℕ
@@ -83,7 +86,8 @@ charset_word = codes "charset="
 
 -- the name of the encoding in the value of Content-Type
 unfoldable pub charset_in : List ℕ → Option (List ℕ)
-charset_in content_type = option_map (before_word charset_word) (after_word charset_word content_type)
+charset_in content_type =
+    option_map (before_word charset_word) (after_word charset_word content_type)
 
 -- ---- plural forms
 
@@ -113,7 +117,9 @@ names_count name = same_text name (codes "nplurals") || same_text name (codes "n
 unfoldable pub number_in : List ℕ → Option ℕ
 number_in text =
     let digits = without_leading_plus text in
-    if not (length digits == 0) && list_all is_ascii_digit digits && nat_lt (digits_value 10 digits) (2 ^ 64) then Some (digits_value 10 digits) else None
+    if not (length digits == 0) && list_all is_ascii_digit digits
+    && nat_lt (digits_value 10 digits) (2 ^ 64)
+    then Some (digits_value 10 digits) else None
 
 -- the number of plurals in the value of Plural-Forms
 unfoldable pub count_in : List ℕ → Option ℕ

@@ -1,5 +1,7 @@
 -- What an MO file means (GNU gettext manual, section 10.3).
-use Rattle.std.specs.Prelude.{◌≡◌, ◌⊎◌, ℕ, suc, ◌≤◌, ◌<◌, Bool, true, false, ◌||◌, List, [], ◌∷◌, length, take, map, codes, Option, Some, None, ◌==◌, if◌then◌else◌, encode_utf8_all}
+use Rattle.std.specs.Prelude.{◌≡◌, ◌⊎◌, ℕ, suc, ◌≤◌, ◌<◌, Bool, true, false, ◌||◌, List, [], ◌∷◌}
+use Rattle.std.specs.Prelude.{length, take, map, codes, Option, Some, None, ◌==◌, if◌then◌else◌}
+use Rattle.std.specs.Prelude.{encode_utf8_all}
 use Rattle.std.specs.List.{slice_get, list_any}
 use Rattle.std.specs.Option.{option_and_then, unwrap_or}
 use Rattle.std.specs.Str.{chars}
@@ -11,7 +13,9 @@ use Rattle.gettext.specs.Metadata.{Field, fields_of, value_of, charset_in, plura
 use Rattle.gettext.specs.Expression.{Expression}
 use Rattle.gettext.specs.Grammar.{expr}
 use Rattle.gettext.specs.Messages.{Message, Messages, Rule, Default, Expr, Function, has_id}
-use Rattle.gettext.specs.Layout.{is_nul, little_endian, big_endian, count_of, originals_of, translations_of, original_of, translation_of, head_of, pieces_of, LiesInside}
+use Rattle.gettext.specs.Layout.{is_nul, little_endian, big_endian, count_of, originals_of}
+use Rattle.gettext.specs.Layout.{translations_of, original_of, translation_of, head_of, pieces_of}
+use Rattle.gettext.specs.Layout.{LiesInside}
 
 -- ---- the metadata
 
@@ -43,7 +47,8 @@ encoding_by (Some forced) charset = Some forced
 encoding_by None None = Some Utf8
 encoding_by None (Some label) = encoding_of label
 
--- the encoding of the rows behind the metadata: the one that is forced, else the one that the charset names, else UTF-8
+-- the encoding of the rows behind the metadata: the one that is forced, else the one that the
+-- charset names, else UTF-8
 abbrev pub named_encoding : Options → List Field → Option Encoding
 named_encoding o fields = encoding_by o.encoding (charset_of fields)
 
@@ -70,8 +75,8 @@ AreTexts e (bytes ∷ pieces) (text ∷ texts) = IsText e bytes text × AreTexts
 AreTexts e [] (text ∷ texts) = ⊥
 AreTexts e (bytes ∷ pieces) [] = ⊥
 
--- What row i of the file says is the message. Byte 4 is U+0004 in each encoding, so the head says the whole key: the
--- context, U+0004 and the id, or the id. An id is empty at row 0 alone.
+-- What row i of the file says is the message. Byte 4 is U+0004 in each encoding, so the head says
+-- the whole key: the context, U+0004 and the id, or the id. An id is empty at row 0 alone.
 pub record IsRow (b : List ℕ) (e : Encoding) (i : ℕ) (m : Message) : Type 0 where
   pub original : LiesInside b (originals_of b) i
   pub ended : list_any is_nul (original_of b i) ≡ true
@@ -103,7 +108,10 @@ pub record entries (b : List ℕ) (o : Options) (c : Messages) : Type 0 where
 
 -- the message of a row of texts in an encoding
 unfoldable pub row_message : List ℕ → Encoding → ℕ → Message
-row_message b e i = record { key = text_in e (head_of (original_of b i)); forms = map (text_in e) (pieces_of (translation_of b i)) }
+row_message b e i = record {
+  key = text_in e (head_of (original_of b i));
+  forms = map (text_in e) (pieces_of (translation_of b i));
+}
 
 -- the fields of the metadata of a file with a row
 unfoldable pub fields_in_file : List ℕ → Options → Option (List Field)

@@ -1,5 +1,6 @@
 -- What `parse_bytes` and `parse` answer. A result holds the entries of a catalog, or an error.
-use Rattle.std.specs.Prelude.{◌≡◌, ◌⊎◌, ℕ, ◌≤◌, Bool, List, length, Option, Some, None, Result, MatchResult, IfOk, IfErr, IfSome, IsErrAnd, IsErrOf, nat_le, if◌then◌else◌}
+use Rattle.std.specs.Prelude.{◌≡◌, ◌⊎◌, ℕ, ◌≤◌, ◌<◌, Bool, List, length, Option, Some, None}
+use Rattle.std.specs.Prelude.{Result, Ok, Err, MatchResult, IfOk, IfErr, IfSome, IsErrAnd, IsErrOf}
 pub use Rattle.reading.specs.Reading.{most_bytes}
 use Rattle.reading.specs.Reading.{IsReadToEnd}
 use Rattle.writeable_core.specs.Sink.{Rose}
@@ -11,9 +12,11 @@ use Rattle.gettext.specs.Mo.{entries, IsInUtf8}
 use Rattle.gettext.specs.Faults.{mo_fault}
 use Rattle.gettext.specs.Table.{Held, messages_of}
 
--- what is wrong with the bytes of a source: they are too many, or no file
-abbrev pub source_fault : List ℕ → Options → Option Error
-source_fault bytes o = if nat_le (length bytes) most_bytes then mo_fault bytes o else Some TooLong
+-- what is wrong with the bytes of a source, if anything: they are too many, or `mo_fault`
+abbrev pub source_fault : List ℕ → Options → Option Error → Type 0
+source_fault bytes o fault =
+    ((length bytes ≤ most_bytes) × mo_fault bytes o fault)
+    ⊎ ((most_bytes < length bytes) × (fault ≡ Some TooLong))
 
 -- the errors that say nothing of the bytes
 abbrev pub IsReadFault : Error → Type 0
@@ -32,27 +35,39 @@ ComesAtEnd e = Unit {0}
 abbrev pub MeansBytes : List ℕ → Options → Held → Type 0
 MeansBytes bytes o held = (c : Messages) × entries bytes o c × StandsFor (messages_of held) c
 
--- What reading bytes answers. A file that means something is read as that, and what is read means something (`read`,
--- `ok`), unless memory runs out; else the answer is the first condition that fails (`err`, `exact`).
-pub record ParsesBytes {T : Type 0} (result : Result T Error) (held : T → Held) (bytes : List ℕ) (o : Options) : Type 0 where
-  pub read : (c : Messages) → entries bytes o c
-      → MatchResult result (λ t. StandsFor (messages_of (held t)) c) (λ e. e ≡ NoMemory)
-  pub ok : IfOk result (λ t. MeansBytes bytes o (held t))
-  pub err : (fault : Error) → mo_fault bytes o ≡ Some fault → IsErrAnd result (λ e. (e ≡ NoMemory) ⊎ (e ≡ fault))
-  pub exact : MatchResult result (λ t. mo_fault bytes o ≡ None) (λ e. (e ≡ NoMemory) ⊎ (mo_fault bytes o ≡ Some e))
-  pub buffer : IfOk result (λ t. IsInUtf8 bytes o → (held t).buffer ≡ bytes)
+-- what a result holds, or its error
+abbrev pub held_in : {T : Type 0} → (T → Held) → Result T Error → Result Held Error
+held_in held (Ok t) = Ok (held t)
+held_in held (Err e) = Err e
 
--- The same of a source that tells its bytes (`read`, `ok`, `exact`, `buffer`). A fault of the source comes where its count
--- of faults rose (`io`), which never falls (`later`). An error of the bytes comes once the source was read to its end
--- (`read_to_end`), and too many bytes where no read failed (`no_fault`).
-pub record ParsesSource {S T : Type 0} (left : S → Option (List ℕ)) (ended : S → Bool) (faults : S → ℕ) (old new : S)
-    (result : Result T Error) (held : T → Held) (o : Options) : Type 0 where
-  pub read : IfSome (left old) (λ bytes. (c : Messages) → length bytes ≤ most_bytes → entries bytes o c
-      → MatchResult result (λ t. StandsFor (messages_of (held t)) c) IsReadFault)
-  pub ok : IfOk result (λ t. IfSome (left old) (λ bytes. (length bytes ≤ most_bytes) × MeansBytes bytes o (held t)))
-  pub exact : IfSome (left old) (λ bytes. MatchResult result (λ t. source_fault bytes o ≡ None)
-      (λ e. IsReadFault e ⊎ (source_fault bytes o ≡ Some e)))
-  pub buffer : IfOk result (λ t. IfSome (left old) (λ bytes. IsInUtf8 bytes o → (held t).buffer ≡ bytes))
+-- What reading bytes answers. A file that means something is read as that, and what is read means
+-- something (`read`, `ok`), unless memory runs out; else the answer is the first condition that
+-- fails (`err`, `exact`).
+pub record ParsesBytes (result : Result Held Error) (bytes : List ℕ) (o : Options) : Type 0 where
+  pub read : (c : Messages) → entries bytes o c
+      → MatchResult result (λ h. StandsFor (messages_of h) c) (λ e. e ≡ NoMemory)
+  pub ok : IfOk result (MeansBytes bytes o)
+  pub err : (fault : Error) → mo_fault bytes o (Some fault)
+      → IsErrAnd result (λ e. (e ≡ NoMemory) ⊎ (e ≡ fault))
+  pub exact : MatchResult result (λ h. mo_fault bytes o None)
+      (λ e. (e ≡ NoMemory) ⊎ mo_fault bytes o (Some e))
+  pub buffer : IfOk result (λ h. IsInUtf8 bytes o → h.buffer ≡ bytes)
+
+-- The same of a source that tells its bytes (`read`, `ok`, `exact`, `buffer`). A fault of the
+-- source comes where its count of faults rose (`io`), which never falls (`later`). An error of the
+-- bytes comes once the source was read to its end (`read_to_end`), and too many bytes where no read
+-- failed (`no_fault`).
+pub record ParsesSource {S : Type 0} (left : S → Option (List ℕ)) (ended : S → Bool)
+    (faults : S → ℕ) (old new : S) (result : Result Held Error) (o : Options) : Type 0 where
+  pub read : IfSome (left old)
+      (λ bytes. (c : Messages) → length bytes ≤ most_bytes → entries bytes o c
+      → MatchResult result (λ h. StandsFor (messages_of h) c) IsReadFault)
+  pub ok : IfOk result
+      (λ h. IfSome (left old) (λ bytes. (length bytes ≤ most_bytes) × MeansBytes bytes o h))
+  pub exact : IfSome (left old) (λ bytes. MatchResult result (λ h. source_fault bytes o None)
+      (λ e. IsReadFault e ⊎ source_fault bytes o (Some e)))
+  pub buffer : IfOk result
+      (λ h. IfSome (left old) (λ bytes. IsInUtf8 bytes o → h.buffer ≡ bytes))
   pub io : IfErr result (λ e. e ≡ Io → Rose (faults old) (faults new))
   pub later : faults old ≤ faults new
   pub read_to_end : IfErr result ComesAtEnd → IsReadToEnd left ended faults old new

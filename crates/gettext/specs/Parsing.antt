@@ -1,6 +1,9 @@
--- Reading an expression from left to right, as a function. The grammar decides: `expression_of` finds the tree that it has
--- for a text, and none where it has none (the law `one_tree`). Conditions cite that, and private contracts the rest.
-use Rattle.std.specs.Prelude.{◌≡◌, ℕ, zero, suc, ◌+◌, max, Bool, true, false, List, [], ◌∷◌, length, drop, Option, Some, None, Result, MatchResult, ◌⊎◌, nat_lt, ◌==◌, if◌then◌else◌}
+-- Reading an expression from left to right, as a function. Private contracts alone cite this file:
+-- the grammar decides, and `expression_of` finds the tree that it has for a text, and none where it
+-- has none (the law `one_tree`).
+use Rattle.std.specs.Prelude.{◌≡◌, ℕ, zero, suc, ◌+◌, max, Bool, true, false, List, [], ◌∷◌, length}
+use Rattle.std.specs.Prelude.{drop, Option, Some, None, Result, MatchResult, ◌⊎◌, nat_lt, ◌==◌}
+use Rattle.std.specs.Prelude.{if◌then◌else◌}
 use Rattle.gettext.specs.declared.error.Error.{Error}
 use Rattle.gettext.specs.declared.error.Error.TheVariants.{NoMemory, PluralParsing}
 use Rattle.gettext.specs.declared.plurals.expression.Operator.{Operator}
@@ -10,7 +13,8 @@ use Rattle.gettext.specs.declared.plurals.grammar.Level.{Level}
 use Rattle.gettext.specs.declared.plurals.grammar.Part.{Part}
 use Rattle.gettext.specs.declared.plurals.grammar.Level.TheVariants as level
 use Rattle.gettext.specs.Optional.{◌>>=◌}
-use Rattle.gettext.specs.Expression.{tree_of, Expression, Count, Number, Negation, Binary, Conditional}
+use Rattle.gettext.specs.Expression.{tree_of, Expression, Count, Number, Negation, Binary}
+use Rattle.gettext.specs.Expression.{Conditional}
 use Rattle.std.specs.Option.{option_map}
 use Rattle.gettext.specs.Grammar.{rank, level_of, height_limit}
 use Rattle.gettext.specs.Tokens.{is_space, token_at}
@@ -31,7 +35,8 @@ Parser = List Token → Option Found
 
 -- the code finds what a parser finds, unless memory runs out
 abbrev pub IsParsed : {X : Type 0} → (X → Found) → Result X Error → Option Found → Type 0
-IsParsed view result found = MatchResult result (λ x. found ≡ Some (view x)) (λ e. (e ≡ NoMemory) ⊎ ((e ≡ PluralParsing) × (found ≡ None)))
+IsParsed view result found = MatchResult result (λ x. found ≡ Some (view x))
+    (λ e. (e ≡ NoMemory) ⊎ ((e ≡ PluralParsing) × (found ≡ None)))
 
 -- whether a token is that mark
 abbrev pub is_mark : Token → Token → Bool
@@ -70,7 +75,8 @@ closed p ts = record { tree = p.tree; height = p.height + 1; rest = ts }
 abbrev pub atom_or : Parser → Option Found → Option (List Token) → Option Found
 atom_or inside (Some p) opened = Some p
 atom_or inside None None = None
-atom_or inside None (Some ts) = inside ts >>= λ p. after token.Close p.rest >>= λ us. Some (closed p us)
+atom_or inside None (Some ts) =
+    inside ts >>= λ p. after token.Close p.rest >>= λ us. Some (closed p us)
 
 -- a part of the tightest level
 abbrev pub atom : Parser → Parser
@@ -91,17 +97,24 @@ unary inner tight ts = unary_or inner (after token.Bang ts) (tight ts)
 
 -- two parts with an operator between them
 abbrev pub joined : Operator → Found → Found → Found
-joined o p q = record { tree = Binary o p.tree q.tree; height = max p.height q.height + 1; rest = q.rest }
+joined o p q = record {
+  tree = Binary o p.tree q.tree;
+  height = max p.height q.height + 1;
+  rest = q.rest;
+}
 
 -- what an operator that follows a part does
-abbrev pub more_at : Parser → ℕ → (Found → Option Found) → Found → Option (Operator × List Token) → Option Found
+abbrev pub more_at : Parser → ℕ → (Found → Option Found) → Found → Option (Operator × List Token)
+    → Option Found
 more_at right budget next p None = Some p
-more_at right budget next p (Some x) = if nat_lt p.height budget then (right x.1 >>= λ q. next (joined x.0 p q)) else None
+more_at right budget next p (Some x) =
+    if nat_lt p.height budget then (right x.1 >>= λ q. next (joined x.0 p q)) else None
 
 -- a part, and the operators of its level that follow it, to the left
 unfoldable pub more : Level → Parser → ℕ → ℕ → Found → Option Found
 more l right budget zero p = more_at right budget (λ q. None) p (operator_at l p.rest)
-more l right budget (suc fuel) p = more_at right budget (more l right budget fuel) p (operator_at l p.rest)
+more l right budget (suc fuel) p =
+    more_at right budget (more l right budget fuel) p (operator_at l p.rest)
 
 -- a part of a level of binary operators
 abbrev pub chain : Level → Parser → Parser → ℕ → Parser
@@ -109,17 +122,25 @@ chain l right first budget ts = first ts >>= more l right budget budget
 
 -- three parts with `? :` between them
 abbrev pub chosen : Found → Found → Found → Found
-chosen c a b = record { tree = Conditional c.tree a.tree b.tree; height = max c.height (max a.height b.height) + 1; rest = b.rest }
+chosen c a b = record {
+  tree = Conditional c.tree a.tree b.tree;
+  height = max c.height (max a.height b.height) + 1;
+  rest = b.rest;
+}
 
 -- what a condition chooses from, where a `?` follows it
 abbrev pub choice_at : Parser → ℕ → Found → Option (List Token) → Option Found
 choice_at inner budget c None = Some c
 choice_at inner budget c (Some ts) =
-    if nat_lt c.height budget then (inner ts >>= λ a. after token.Colon a.rest >>= λ us. inner us >>= λ b. Some (chosen c a b)) else None
+    if nat_lt c.height budget
+    then (inner ts
+    >>= λ a. after token.Colon a.rest >>= λ us. inner us >>= λ b. Some (chosen c a b))
+    else None
 
 -- a part of the loosest level
 abbrev pub choice : Parser → Parser → ℕ → Parser
-choice inner first budget ts = first ts >>= λ c. choice_at inner budget c (after token.Question c.rest)
+choice inner first budget ts =
+    first ts >>= λ c. choice_at inner budget c (after token.Question c.rest)
 
 -- the level of `!`
 abbrev pub units : (Level → Parser) → Parser
@@ -139,15 +160,18 @@ relations inner budget = chain level.Relation (inner level.Sum) (sums inner budg
 
 -- the level of `==` and `!=`
 abbrev pub equalities : (Level → Parser) → ℕ → Parser
-equalities inner budget = chain level.Equality (inner level.Relation) (relations inner budget) budget
+equalities inner budget =
+    chain level.Equality (inner level.Relation) (relations inner budget) budget
 
 -- the level of `&&`
 abbrev pub conjunctions : (Level → Parser) → ℕ → Parser
-conjunctions inner budget = chain level.Conjunction (inner level.Equality) (equalities inner budget) budget
+conjunctions inner budget =
+    chain level.Conjunction (inner level.Equality) (equalities inner budget) budget
 
 -- the level of `||`
 abbrev pub disjunctions : (Level → Parser) → ℕ → Parser
-disjunctions inner budget = chain level.Disjunction (inner level.Conjunction) (conjunctions inner budget) budget
+disjunctions inner budget =
+    chain level.Disjunction (inner level.Conjunction) (conjunctions inner budget) budget
 
 -- a part of each level, given one for the parts inside it
 abbrev pub at_level : (Level → Parser) → ℕ → Level → Parser
@@ -159,7 +183,8 @@ at_level inner budget level.Relation = relations inner budget
 at_level inner budget level.Equality = equalities inner budget
 at_level inner budget level.Conjunction = conjunctions inner budget
 at_level inner budget level.Disjunction = disjunctions inner budget
-at_level inner budget level.Conditional = choice (inner level.Conditional) (disjunctions inner budget) budget
+at_level inner budget level.Conditional =
+    choice (inner level.Conditional) (disjunctions inner budget) budget
 
 -- the part of a level that the tokens begin with, where its height is at most the budget
 unfoldable pub parse : ℕ → Level → Parser
@@ -171,7 +196,9 @@ abbrev pub tokens_from : ℕ → List ℕ → Option (List Token)
 tokens_from n [] = Some []
 tokens_from zero (c ∷ text) = None
 tokens_from (suc n) (c ∷ text) =
-    if is_space c then tokens_from n text else (token_at (c ∷ text) >>= λ t. option_map (λ ts. t.0 ∷ ts) (tokens_from n (drop t.1 (c ∷ text))))
+    if is_space c then tokens_from n text
+    else (token_at (c ∷ text)
+    >>= λ t. option_map (λ ts. t.0 ∷ ts) (tokens_from n (drop t.1 (c ∷ text))))
 
 -- the tree of a part that all tokens are
 abbrev pub whole_tree : Found → Option Expression
@@ -179,7 +206,8 @@ whole_tree p = if length p.rest == 0 then Some p.tree else None
 
 -- the tree of a text, where it is an expression
 unfoldable pub expression_of : List ℕ → Option Expression
-expression_of text = tokens_from (length text) text >>= λ ts. parse height_limit level.Conditional ts >>= whole_tree
+expression_of text =
+    tokens_from (length text) text >>= λ ts. parse height_limit level.Conditional ts >>= whole_tree
 
 -- the levels of binary operators
 abbrev pub IsBinary : Level → Type 0

@@ -1,5 +1,6 @@
 -- What the steps of reading a file give. The contracts of private functions cite these.
-use Rattle.std.specs.Prelude.{◌≡◌, ℕ, zero, suc, ◌+◌, ◌-◌, ◌≤◌, true, List, [], length, take, drop, ◌∷◌, ◌++◌, Option, Some, None, Result, MatchResult, ◌⊎◌}
+use Rattle.std.specs.Prelude.{◌≡◌, ℕ, zero, suc, ◌+◌, ◌-◌, ◌≤◌, true, List, [], length, take, drop}
+use Rattle.std.specs.Prelude.{◌∷◌, ◌++◌, Option, Some, None, Result, MatchResult, ◌⊎◌}
 use Rattle.std.specs.List.{list_all, AllByRecursion}
 use Rattle.std.specs.List.Sorted.{IsStrictlySortedBy}
 use Rattle.std.specs.Ordering.{nat_cmp}
@@ -11,7 +12,9 @@ use Rattle.gettext.specs.declared.error.Error.TheVariants.{NoMemory}
 use Rattle.gettext.specs.declared.parser.layout.Header.{Header}
 use Rattle.gettext.specs.declared.spans.Span.{Span}
 use Rattle.gettext.specs.declared.spans.Row.{Row}
-use Rattle.gettext.specs.Layout.{is_big_endian, count_of, originals_of, translations_of, text_offset, text_length, closed_text_of, text_of, original_of, head_of}
+use Rattle.gettext.specs.Layout.{is_big_endian, count_of, originals_of, translations_of}
+use Rattle.gettext.specs.Layout.{text_offset, text_length, closed_text_of, text_of, original_of}
+use Rattle.gettext.specs.Layout.{head_of}
 use Rattle.gettext.specs.declared.encoding.Encoding.{Encoding}
 use Rattle.gettext.specs.Encoding.{is_valid}
 use Rattle.gettext.specs.Table.{key_bytes, form_bytes, row_for, IsRowOf, LiesIn}
@@ -22,7 +25,8 @@ Gives P result fault = MatchResult result (λ x. P x × (fault ≡ None)) (λ e.
 
 -- the same, but that memory may run out
 abbrev pub GivesInMemory : {X : Type 0} → (X → Type 0) → Result X Error → Option Error → Type 0
-GivesInMemory P result fault = MatchResult result (λ x. P x × (fault ≡ None)) (λ e. (e ≡ NoMemory) ⊎ (fault ≡ Some e))
+GivesInMemory P result fault =
+    MatchResult result (λ x. P x × (fault ≡ None)) (λ e. (e ≡ NoMemory) ⊎ (fault ≡ Some e))
 
 -- what is read of the first 28 bytes
 pub record IsHeader (b : List ℕ) (header : Header) : Type 0 where
@@ -33,7 +37,10 @@ pub record IsHeader (b : List ℕ) (header : Header) : Type 0 where
 
 -- where the text of row i of a table stands
 unfoldable pub text_span : List ℕ → ℕ → ℕ → Span
-text_span b table i = record { start = text_offset b table i; end = text_offset b table i + text_length b table i }
+text_span b table i = record {
+  start = text_offset b table i;
+  end = text_offset b table i + text_length b table i;
+}
 
 -- the span of a text that lies in the file with its closing byte
 pub record IsTextSpan (b : List ℕ) (table i : ℕ) (span : Span) : Type 0 where
@@ -78,7 +85,8 @@ pub record IsKeyed (b : List ℕ) (entry : Bor (List ℕ) × Row) : Type 0 where
   pub row : IsRowOf b entry.1
 
 -- The map finds the last of the rows with each key.
-pub record Collects (b : List ℕ) (rows : List Row) (found : BTreeMap (Bor (List ℕ)) Row) : Type 0 where
+pub record Collects (b : List ℕ) (rows : List Row)
+    (found : BTreeMap (Bor (List ℕ)) Row) : Type 0 where
   pub keyed : AllByRecursion (IsKeyed b) found.entries
   pub ordered : IsStrictlySortedBy (λ x y. slice_cmp nat_cmp x.now y.now) (keys found)
   pub finds : (q : List ℕ) → get_by (λ k. slice_cmp nat_cmp q k.now) found ≡ row_for b rows q

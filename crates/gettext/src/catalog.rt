@@ -4,18 +4,20 @@
 
 mod table;
 
-ghost use Rattle.std.specs.Prelude.{◌≡◌, ℕ, ◌==◌, ◌↔◌, List, [], Option, Some, None, Result, if◌then◌else◌};
+ghost use Rattle.std.specs.Prelude.{◌≡◌, ℕ, ◌==◌, ◌↔◌, List, [], Option, Some, None, Result};
+ghost use Rattle.std.specs.Prelude.{if◌then◌else◌};
 ghost use Rattle.std.specs.Option.{option_map};
 ghost use Rattle.std.specs.Str.{chars};
 ghost use Rattle.gettext.specs.declared.error.Error.{Error};
-ghost use Rattle.gettext.specs.Messages.{Message, Messages, StandsFor, Default, key_of, key_asked, numbered, form, count_of_forms, own_words, text_or};
+ghost use Rattle.gettext.specs.Messages.{Message, Messages, StandsFor, Default, key_of, key_asked};
+ghost use Rattle.gettext.specs.Messages.{numbered, form, count_of_forms, own_words, text_or};
 ghost use Rattle.gettext.specs.declared.encoding.Encoding.{Encoding};
 ghost use Rattle.gettext.specs.Layout.{head_of, original_of};
 ghost use Rattle.gettext.specs.Mo.{IsRow, entries};
 ghost use Rattle.gettext.specs.MoLaws.{IsKeyOf};
 ghost use Rattle.gettext.specs.Faults.{IsMoFault, mo_fault};
 ghost use Rattle.gettext.specs.Options.{Options, plain_options};
-ghost use Rattle.gettext.specs.Parse.{ParsesBytes, ParsesSource};
+ghost use Rattle.gettext.specs.Parse.{ParsesBytes, ParsesSource, held_in};
 ghost use Rattle.gettext.specs.Table.{IsRangeOf, messages_of};
 
 use crate::error::Error;
@@ -58,21 +60,24 @@ impl Catalog {
     /// 67,108,864 bytes at most.
     pub fn parse<S: Source>(alloc: Global, source: &mut S) -> Result<Catalog, Error>
         ensures { ParsesSource S.left S.ended S.faults source.old source.new
-            result (λ catalog. catalog.entries) plain_options }
+            (held_in (λ catalog. catalog.entries) result) plain_options }
     {
         ParseOptions::new().parse(alloc, source)
     }
 
-    /// The messages of an MO file (GNU gettext manual, section 10.3). Of equal keys the last row counts.
+    /// The messages of an MO file (GNU gettext manual, section 10.3). Of equal keys the last row
+    /// counts.
     pub fn parse_bytes(alloc: Global, bytes: &[u8]) -> Result<Catalog, Error>
-        ensures { ParsesBytes result (λ catalog. catalog.entries) bytes.now plain_options }
+        ensures { ParsesBytes (held_in (λ catalog. catalog.entries) result) bytes.now
+            plain_options }
     {
         ParseOptions::new().parse_bytes(alloc, bytes)
     }
 }
 
 impl<P: FormRule> Catalog<P> {
-    /// The form for `n` of the message with that context and id. Nothing is joined and nothing copied.
+    /// The form for `n` of the message with that context and id. Nothing is joined and nothing
+    /// copied.
     pub fn find(&self, context: Option<&str>, id: &str, n: u64) -> Option<Form<'_>>
         ensures found { (c : Messages) → StandsFor (messages_of self.now.entries) c
             → (given : Option ℕ) × P.answers self.now.plural n given
@@ -185,11 +190,11 @@ fn own_words<'a>(msg_id: &'a str, msg_id_plural: &'a str, n: u64) -> &'a str
     if n == 1 { msg_id } else { msg_id_plural }
 }
 
-/// A file has no fault exactly where it means something, and then it means one thing: what stands
-/// for that gives each form alike.
+/// A file has one fault, or none: none exactly where it means something, and then it means one
+/// thing, and what stands for that gives each form alike.
 pub fn one_meaning()
     ensures faultless { (b : List ℕ) (o : Options)
-        → (mo_fault b o ≡ None) ↔ ((c : Messages) × entries b o c) }
+        → mo_fault b o None ↔ ((c : Messages) × entries b o c) }
     ensures unique { (b : List ℕ) (o : Options) (c d : Messages) → entries b o c → entries b o d
         → c ≡ d }
     ensures alike { (b : List ℕ) (o : Options) (c kept : Messages) → entries b o c
@@ -197,5 +202,8 @@ pub fn one_meaning()
         → (given : Option ℕ) (key : List ℕ) (n : ℕ) → form kept given key n ≡ form c given key n }
     ensures parts { (b : List ℕ) (e : Encoding) (i : ℕ) (m : Message) → IsRow b e i m
         → IsKeyOf e (head_of (original_of b i)) m.key }
-    ensures faults { (b : List ℕ) (o : Options) (e : Error) → mo_fault b o ≡ Some e → IsMoFault e }
+    ensures fault { (b : List ℕ) (o : Options) → (f : Option Error) × mo_fault b o f }
+    ensures one_fault { (b : List ℕ) (o : Options) (e f : Option Error) → mo_fault b o e
+        → mo_fault b o f → e ≡ f }
+    ensures faults { (b : List ℕ) (o : Options) (e : Error) → mo_fault b o (Some e) → IsMoFault e }
 {}

@@ -6,15 +6,16 @@
 //! assert_eq!(catalog.ngettext("%s file", "%s files", 2), "%s fichiers");
 //! ```
 //!
-//! [`Catalog::parse`] reads a file that a source gives, and [`ParseOptions`] one with an [`Encoding`] or
-//! a plural rule in place of the file's. [`Catalog::find`] tells a form's number beside its text. The
-//! plural rule is an expression ([`Ast`]) in the file's metadata, or a function ([`PluralFunction`]).
+//! [`Catalog::parse`] reads a file that a source gives, and [`ParseOptions`] one with an
+//! [`Encoding`] or a plural rule in place of the file's. [`Catalog::find`] tells a form's number
+//! beside its text. The plural rule is an expression ([`Ast`]) in the file's metadata, or a
+//! function ([`PluralFunction`]).
 //!
 //! - `catalog`: [`Catalog`] and its look-ups, the table behind them, and the law [`one_meaning`].
 //! - `parser`: [`ParseOptions`], and the reader of MO files.
 //! - `metadata`: [`parse_metadata`] and [`MetadataMap`], the fields of a file's metadata.
-//! - `plurals`: [`Ast`], [`Resolver`] and [`PluralFunction`], how the number of a form follows from a
-//!   count, and the law [`one_tree`].
+//! - `plurals`: [`Ast`], [`Resolver`] and [`PluralFunction`], how the number of a form follows from
+//!   a count, and the law [`one_tree`].
 //! - `encoding`: [`Encoding`], the encodings of texts and their labels.
 //! - `error`: [`Error`], why a catalog could not be read.
 //! - `spans`: ranges of a buffer, which the reader finds and the table keeps.

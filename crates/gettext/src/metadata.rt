@@ -1,9 +1,12 @@
 //! The metadata of a catalog: the translation of the empty id.
 
-ghost use Rattle.std.specs.Prelude.{◌≡◌, ℕ, ◌<◌, ◌⊎◌, List, Option, Some, None, MatchResult, IfOk, IfErr, codes, ◌==◌};
+ghost use Rattle.std.specs.Prelude.{◌≡◌, ℕ, ◌<◌, ◌⊎◌, List, Option, Some, None, MatchResult, IfOk};
+ghost use Rattle.std.specs.Prelude.{IfErr, codes, ◌==◌};
 ghost use Rattle.std.specs.Option.{option_map, option_and_then};
 ghost use Rattle.gettext.specs.declared.error.Error.TheVariants.{NoMemory, MalformedMetadata};
-ghost use Rattle.gettext.specs.Metadata.{Field, field_of, fields_of, value_of, last_value, charset_in, plural_fields, plural_in, names_count, number_in, count_in, gives, shown};
+ghost use Rattle.gettext.specs.Metadata.{Field, field_of, fields_of, value_of, last_value};
+ghost use Rattle.gettext.specs.Metadata.{charset_in, plural_fields, plural_in, names_count};
+ghost use Rattle.gettext.specs.Metadata.{number_in, count_in, gives, shown};
 
 use crate::error::Error;
 use std::alloc::Global;
@@ -27,7 +30,8 @@ impl<'a> Model for MetadataMap<'a> {
     ghost view = { λ a. field_map a.fields };
 }
 
-/// The name before the first `sign` and the value behind it, each without the white space around it.
+/// The name before the first `sign` and the value behind it, each without the white space around
+/// it.
 fn field_at(text: &str, sign: char) -> Option<(&str, &str)>
     requires { sign < 128 }
     ensures { option_map shown result ≡ field_of (λ c. c == sign) text.now }
@@ -41,7 +45,8 @@ fn field_at(text: &str, sign: char) -> Option<(&str, &str)>
 pub fn parse_metadata(alloc: Global, blob: &str) -> Result<MetadataMap<'_>, Error>
     // A text whose lines all have a colon is read, unless memory runs out.
     ensures ok { (fields : List Field) → fields_of blob.now ≡ Some fields
-        → MatchResult result (λ map. (name : List ℕ) → gives map name ≡ value_of fields name) (λ e. e ≡ NoMemory) }
+        → MatchResult result (λ map. (name : List ℕ) → gives map name ≡ value_of fields name)
+        (λ e. e ≡ NoMemory) }
     ensures err { IfErr result (λ e. (e ≡ NoMemory)
         ⊎ ((e ≡ MalformedMetadata) × (fields_of blob.now ≡ None))) }
 
@@ -79,7 +84,8 @@ impl MetadataMap<'_> {
     /// How many plural forms there are, and the expression that chooses one.
     #[tactic(auto, unfolding(crate::specs::Metadata::count_in))]
     pub fn plural_forms(&self) -> (Option<usize>, Option<&str>)
-        ensures count { result.0 ≡ option_and_then count_in (gives self.now (codes "Plural-Forms")) }
+        ensures count { result.0
+            ≡ option_and_then count_in (gives self.now (codes "Plural-Forms")) }
         ensures expression { option_map (λ s. s.now) result.1
             ≡ option_and_then plural_in (gives self.now (codes "Plural-Forms")) }
     {
@@ -104,7 +110,8 @@ fn charset_of(content_type: &str) -> Option<&str>
 
 /// The last number of plurals, as text, and the last expression in the value of Plural-Forms.
 fn plural_fields_of(forms: &str) -> (Option<&str>, Option<&str>)
-    ensures count { option_map (λ s. s.now) result.0 ≡ last_value names_count (plural_fields forms.now) }
+    ensures count { option_map (λ s. s.now) result.0
+        ≡ last_value names_count (plural_fields forms.now) }
     ensures expression { option_map (λ s. s.now) result.1 ≡ plural_in forms.now }
 {
     let mut count = None;

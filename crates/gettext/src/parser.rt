@@ -20,7 +20,7 @@ ghost use Rattle.std.specs.Prelude.{◌≡◌, ℕ, ◌<◌, ◌^◌, Some, None
 ghost use Rattle.gettext.specs.declared.error.Error.{Error};
 ghost use Rattle.gettext.specs.Mo.{entries};
 ghost use Rattle.gettext.specs.Options.{options_of};
-ghost use Rattle.gettext.specs.Parse.{ParsesBytes, ParsesSource};
+ghost use Rattle.gettext.specs.Parse.{ParsesBytes, ParsesSource, held_in};
 
 use crate::catalog::Catalog;
 use crate::encoding::Encoding;
@@ -81,7 +81,7 @@ impl<P: FormRule> ParseOptions<P> {
     /// As [`Catalog::parse`].
     pub fn parse<S: Source>(self, alloc: Global, source: &mut S) -> Result<Catalog<P>, Error>
         ensures read { ParsesSource S.left S.ended S.faults source.old source.new
-            result (λ catalog. catalog.entries) (options_of self.encoding P.forced) }
+            (held_in (λ catalog. catalog.entries) result) (options_of self.encoding P.forced) }
         ensures plural { IfOk result (λ catalog. catalog.plural ≡ self.plural) }
     {
         let entries = table_of_source(alloc, source, self.options())?;
@@ -93,7 +93,7 @@ impl<P: FormRule> ParseOptions<P> {
 
     /// As [`Catalog::parse_bytes`].
     pub fn parse_bytes(self, alloc: Global, bytes: &[u8]) -> Result<Catalog<P>, Error>
-        ensures read { ParsesBytes result (λ catalog. catalog.entries) bytes.now
+        ensures read { ParsesBytes (held_in (λ catalog. catalog.entries) result) bytes.now
             (options_of self.encoding P.forced) }
         ensures plural { IfOk result (λ catalog. catalog.plural ≡ self.plural) }
     {

@@ -3,7 +3,8 @@
 //! - `tokens`: the tokens of a plural expression.
 //! - `grammar`: its levels.
 //! - `expression`: [`Ast`] and [`Operator`], the trees and their values, and the law [`one_tree`].
-//! - `resolver`: [`Resolver`] and [`PluralFunction`], how the number of a form follows from a count.
+//! - `resolver`: [`Resolver`] and [`PluralFunction`], how the number of a form follows from a
+//!   count.
 //! - `rule`: the plural rule that a catalog keeps.
 
 mod expression;

@@ -52,25 +52,25 @@ fault_in_tag T number text bytes cause e are is memory own not_memory earlier =
 -- the file is none
 pub fault_in_catalog : (T : Tables) (number : ℕ) (text : BundleText) (bytes file : List ℕ) (l : Locale) (error : Error) (e : RenderError)
     → encode_utf8_all text.tag ≡ bytes → file ≡ text.mo → IsLocaleOf T bytes l
-    → (error ≡ mo.NoMemory) ⊎ (mo_fault file plain_options ≡ Some error)
+    → (error ≡ mo.NoMemory) ⊎ mo_fault file plain_options (Some error)
     → (error ≡ mo.NoMemory → e ≡ refusals.NoMemory) → (error ≢ mo.NoMemory → e ≡ refusals.Bundle number (Mo error))
     → e ≢ refusals.NoMemory → (earlier : List Meaning) → IsFaultBehind T earlier number text e
 fault_in_catalog T number text bytes file l error e are same locale (inl none) memory own not_memory earlier = absurd (not_memory (memory none))
 fault_in_catalog T number text bytes file l error e are same locale (inr fault) memory own not_memory earlier =
     in_catalog (subst (λ t. IsLocaleOf T t l) (sym are) locale)
-    (subst (λ f. mo_fault f plain_options ≡ Some error) same fault)
+    (subst (λ f. mo_fault f plain_options (Some error)) same fault)
     (own (λ is. not_memory (memory is)))
 
 -- a text of the list is no pattern
 pub fault_in_list : (T : Tables) (number : ℕ) (text : BundleText) (bytes file : List ℕ) (l : Locale) (error : DataError) (e : RenderError)
-    → encode_utf8_all text.tag ≡ bytes → file ≡ text.mo → IsLocaleOf T bytes l → mo_fault file plain_options ≡ None
+    → encode_utf8_all text.tag ≡ bytes → file ≡ text.mo → IsLocaleOf T bytes l → mo_fault file plain_options None
     → IsFault (list_fault (list_texts text.list)) error
     → (error ≡ lists.NoMemory → e ≡ refusals.NoMemory) → (error ≢ lists.NoMemory → e ≡ refusals.Bundle number (ListCause error))
     → e ≢ refusals.NoMemory → (earlier : List Meaning) → IsFaultBehind T earlier number text e
 fault_in_list T number text bytes file l error e are same locale sound fault memory own not_memory earlier =
     let ne : error ≢ lists.NoMemory = λ is. not_memory (memory is) in
     in_list (subst (λ t. IsLocaleOf T t l) (sym are) locale)
-    (subst (λ f. mo_fault f plain_options ≡ None) same sound)
+    (subst (λ f. mo_fault f plain_options None) same sound)
     (fault_some (list_fault (list_texts text.list)) error fault ne) (own ne)
 
 -- a bundle is read

@@ -7,6 +7,7 @@ use Rattle.gettext.specs.Faults.{mo_fault}
 use Rattle.gettext.specs.Messages.{Messages}
 use Rattle.gettext.specs.Mo.{entries}
 use Rattle.gettext.specs.Options.{plain_options}
+use Rattle.gettext.specs.declared.error.Error.{Error}
 use Rattle.icu_list.specs.ListFault.{ArePatternsOf, ListTexts, SpecialTexts, list_fault}
 use Rattle.icu_list.specs.Pattern.{Pattern}
 use Rattle.icu_list.specs.Patterns.{Patterns, closing_of, opening_of}
@@ -90,9 +91,13 @@ abbrev pub OneFile : Type 0
 OneFile = (b : List ℕ) (c d : Messages) → entries b plain_options c → entries b plain_options d → c ≡ d
 
 abbrev pub Faultless : Type 0
-Faultless = (b : List ℕ) → (mo_fault b plain_options ≡ None) ↔ ((c : Messages) × entries b plain_options c)
+Faultless = (b : List ℕ) → mo_fault b plain_options None ↔ ((c : Messages) × entries b plain_options c)
 
-module _ (one : wanted.OneWanted) (one_cause : wanted.OneCause) (never : wanted.NeverBoth) (one_file : OneFile) (faultless : Faultless) (T : Tables) where
+-- a file has one fault, or none
+abbrev pub OneFault : Type 0
+OneFault = (b : List ℕ) (e f : Option Error) → mo_fault b plain_options e → mo_fault b plain_options f → e ≡ f
+
+module _ (one : wanted.OneWanted) (one_cause : wanted.OneCause) (never : wanted.NeverBoth) (one_file : OneFile) (faultless : Faultless) (one_fault : OneFault) (T : Tables) where
   -- a tag is that of one locale
   locale_one : (text : List ℕ) (l m : Locale) → IsLocaleOf T text l → IsLocaleOf T text m → l ≡ m
   locale_one text l m h g =
@@ -116,7 +121,7 @@ module _ (one : wanted.OneWanted) (one_cause : wanted.OneCause) (never : wanted.
   all_one (t ∷ ts) (b ∷ bs) (c ∷ cs) h g = ap₂ (λ x xs. x ∷ xs) (means_one t b c h.0 g.0) (all_one ts bs cs h.1 g.1)
 
   -- a catalog that means something has no fault
-  file_no_fault : (text : BundleText) (b : Meaning) → Means T text b → mo_fault text.mo plain_options ≡ None
+  file_no_fault : (text : BundleText) (b : Meaning) → Means T text b → mo_fault text.mo plain_options None
   file_no_fault text b h = (faultless text.mo).1 (b.messages, h.messages)
 
   -- a bundle that means something, and whose locale is no earlier bundle's, isn't faulty
@@ -124,7 +129,7 @@ module _ (one : wanted.OneWanted) (one_cause : wanted.OneCause) (never : wanted.
       → (Any (λ other. other.locale ≡ b.locale) earlier → ⊥) → IsFaultBehind T earlier i text e → ⊥
   sound_no_fault earlier i text b e h new (in_tag {cause = cause} c is) =
       never T.registry (encode_utf8_all text.tag) h.locale.wanted cause h.locale.wants c
-  sound_no_fault earlier i text b e h new (in_catalog l f is) = let none = file_no_fault text b h in cc
+  sound_no_fault earlier i text b e h new (in_catalog l f is) = let none = one_fault text.mo _ None f (file_no_fault text b h) in cc
   sound_no_fault earlier i text b e h new (in_list l n f is) = let none = h.patterns.faultless in cc
   sound_no_fault earlier i text b e h new (in_locale {b = c} m any is) =
       new (subst (λ (x : Meaning). Any (λ other. other.locale ≡ x.locale) earlier) (means_one text c b m h) any)
@@ -140,19 +145,22 @@ module _ (one : wanted.OneWanted) (one_cause : wanted.OneCause) (never : wanted.
       absurd (never T.registry (encode_utf8_all text.tag) m.locale.wanted c m.locale.wants h)
   fault_one earlier i text e f (in_catalog l h is) (in_tag {cause = d} g so) = absurd (never T.registry (encode_utf8_all text.tag) l.wanted d l.wants g)
   fault_one earlier i text e f (in_catalog {fault = x} l h is) (in_catalog {fault = y} m g so) =
+      let faults = one_fault text.mo (Some x) (Some y) h g in
       let same : x ≡ y = cc in is ∙ ap (λ z. refusals.Bundle i (Mo z)) same ∙ sym so
-  fault_one earlier i text e f (in_catalog l h is) (in_list m n g so) = absurd (let clash = sym h ∙ n in cc)
+  fault_one earlier i text e f (in_catalog l h is) (in_list m n g so) =
+      absurd (let clash = one_fault text.mo _ None h n in cc)
   fault_one earlier i text e f (in_catalog l h is) (in_locale {b = b} m any so) =
-      absurd (let clash = sym h ∙ file_no_fault text b m in cc)
+      absurd (let clash = one_fault text.mo _ None h (file_no_fault text b m) in cc)
   fault_one earlier i text e f (in_list l n h is) (in_tag {cause = d} g so) = absurd (never T.registry (encode_utf8_all text.tag) l.wanted d l.wants g)
-  fault_one earlier i text e f (in_list l n h is) (in_catalog m g so) = absurd (let clash = sym g ∙ n in cc)
+  fault_one earlier i text e f (in_list l n h is) (in_catalog m g so) =
+      absurd (let clash = one_fault text.mo _ None g n in cc)
   fault_one earlier i text e f (in_list {fault = x} l n h is) (in_list {fault = y} m o g so) =
       let same : x ≡ y = cc in is ∙ ap (λ z. refusals.Bundle i (ListCause z)) same ∙ sym so
   fault_one earlier i text e f (in_list l n h is) (in_locale m any so) = absurd (let clash = sym h ∙ m.patterns.faultless in cc)
   fault_one earlier i text e f (in_locale m any is) (in_tag {cause = d} g so) =
       absurd (never T.registry (encode_utf8_all text.tag) m.locale.wanted d m.locale.wants g)
   fault_one earlier i text e f (in_locale {b = b} m any is) (in_catalog l g so) =
-      absurd (let clash = sym g ∙ file_no_fault text b m in cc)
+      absurd (let clash = one_fault text.mo _ None g (file_no_fault text b m) in cc)
   fault_one earlier i text e f (in_locale m any is) (in_list l n g so) = absurd (let clash = sym g ∙ m.patterns.faultless in cc)
   fault_one earlier i text e f (in_locale m any is) (in_locale n other so) = is ∙ sym so
 

@@ -42,8 +42,8 @@ module _ (T : Tables) where
     in_tag : {cause : _} → IsTagCause T.registry (encode_utf8_all text.tag) cause
         → e ≡ refusals.Bundle i (Tag cause) → IsFaultBehind earlier i text e
     in_catalog : {l : Locale} {fault : _} → IsLocaleOf T (encode_utf8_all text.tag) l
-        → mo_fault text.mo plain_options ≡ Some fault → e ≡ refusals.Bundle i (Mo fault) → IsFaultBehind earlier i text e
-    in_list : {l : Locale} {fault : _} → IsLocaleOf T (encode_utf8_all text.tag) l → mo_fault text.mo plain_options ≡ None
+        → mo_fault text.mo plain_options (Some fault) → e ≡ refusals.Bundle i (Mo fault) → IsFaultBehind earlier i text e
+    in_list : {l : Locale} {fault : _} → IsLocaleOf T (encode_utf8_all text.tag) l → mo_fault text.mo plain_options None
         → list_fault (list_texts text.list) ≡ Some fault → e ≡ refusals.Bundle i (ListCause fault) → IsFaultBehind earlier i text e
     in_locale : {b : Meaning} → Means text b → Any (λ other. other.locale ≡ b.locale) earlier
         → e ≡ refusals.DuplicateLocale i → IsFaultBehind earlier i text e

@@ -1,5 +1,5 @@
-//! How a catalog keeps its messages: one buffer of bytes, and a table of ranges in it in the order of
-//! the keys' bytes.
+//! How a catalog keeps its messages: one buffer of bytes, and a table of ranges in it in the order
+//! of the keys' bytes.
 
 ghost use Rattle.std.specs.Prelude.{◌≡◌, ◌∷◌, [], encode_utf8_all, IfSome};
 ghost use Rattle.std.specs.Option.{option_map};
@@ -7,7 +7,8 @@ ghost use Rattle.std.specs.List.{slice_get};
 ghost use Rattle.std.specs.Ordering.{nat_cmp};
 ghost use Rattle.std.specs.Cmp.Lexicographic.{slice_cmp};
 ghost use Rattle.std.specs.Str.{chars, IsUtf8};
-ghost use Rattle.gettext.specs.Messages.{Messages, key_asked, key_bytes_asked, is_within, numbered, count_of_forms};
+ghost use Rattle.gettext.specs.Messages.{Messages, key_asked, key_bytes_asked, is_within, numbered};
+ghost use Rattle.gettext.specs.Messages.{count_of_forms};
 
 use crate::plurals::PluralRule;
 use crate::spans::{Row, bytes_of, nth_piece, nth_span, piece_count};
@@ -113,7 +114,8 @@ impl Table {
         id: &str,
         number: usize,
     ) -> Option<(usize, usize)>
-        ensures { IsRangeOf self.now.buffer result (numbered (messages_of self.now) (key_asked context.entry id.now) number) }
+        ensures { IsRangeOf self.now.buffer result
+            (numbered (messages_of self.now) (key_asked context.entry id.now) number) }
     {
         let row = row_with(&self.buffer, &self.rows, context, id)?;
         let (start, end) = nth_span(bytes_of(&self.buffer, row.forms), number)?;
@@ -171,7 +173,8 @@ fn compare_rest(rest: &[u8], id: &[u8]) -> Ordering
 
 fn row_with(buffer: &[u8], rows: &[Row], context: Option<&str>, id: &str) -> Option<Row>
     requires { IsTable buffer.now rows.now }
-    ensures found { result ≡ row_for buffer.now rows.now (encode_utf8_all (key_asked context.entry id.now)) }
+    ensures found { result
+        ≡ row_for buffer.now rows.now (encode_utf8_all (key_asked context.entry id.now)) }
     ensures fits { IfSome result (IsRowOf buffer.now) }
 {
     find_row(buffer, rows, bytes_in(context), id.as_bytes())

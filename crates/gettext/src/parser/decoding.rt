@@ -15,7 +15,8 @@ pub struct Decoded {
     pub rows: Vec<Row>,
 }
 
-/// Decodes the texts of rows: those of the first in one encoding, and those of the others in another.
+/// Decodes the texts of rows: those of the first in one encoding, and those of the others in
+/// another.
 pub fn decode(
     alloc: Global,
     bytes: &[u8],

@@ -5,7 +5,7 @@ ghost use Rattle.writeable_core.specs.FirstFailure.{first_failure};
 ghost use Rattle.gettext.specs.declared.error.Error.{Error};
 ghost use Rattle.gettext.specs.Errors.{error_of};
 ghost use Rattle.gettext.specs.Files.{AreFileRows, IsFile, buffer_of, is_in_utf8};
-ghost use Rattle.gettext.specs.Faults.{all_rows_conditions, mo_fault};
+ghost use Rattle.gettext.specs.Checks.{all_rows_checks, found_fault};
 ghost use Rattle.gettext.specs.Reader.{GivesInMemory, IsHeader};
 ghost use Rattle.gettext.specs.Parse.{ParsesBytes, ParsesSource};
 
@@ -25,7 +25,7 @@ use writeable_core::Source;
 
 /// The table of a file's messages. Of equal keys the last row counts.
 pub fn table_of_bytes(alloc: Global, bytes: &[u8], options: Options) -> Result<Table, Error>
-    ensures { ParsesBytes result (λ table. table) bytes.now options }
+    ensures { ParsesBytes result bytes.now options }
 {
     let File {
         texts,
@@ -43,7 +43,7 @@ pub fn table_of_source<S: Source>(
     options: Options,
 ) -> Result<Table, Error>
     ensures { ParsesSource S.left S.ended S.faults source.old source.new
-        result (λ table. table) options }
+        result options }
 {
     let bytes = match read_all(alloc, source) {
         Ok(bytes) => bytes,
@@ -88,7 +88,7 @@ struct FileRows {
 
 /// Reads a file.
 fn read(alloc: Global, bytes: &[u8], options: Options) -> Result<File, Error>
-    ensures { GivesInMemory (IsFile bytes.now options) result (mo_fault bytes.now options) }
+    ensures { GivesInMemory (IsFile bytes.now options) result (found_fault bytes.now options) }
 {
     let header = header_of(bytes)?;
     let FileRows { rows, settings } = rows_of(alloc, bytes, header, options)?;
@@ -129,8 +129,9 @@ fn texts_or_copy(alloc: Global, texts: Option<Vec<u8>>, bytes: &[u8]) -> Result<
 
 fn rows_of(alloc: Global, bytes: &[u8], header: Header, options: Options) -> Result<FileRows, Error>
     requires { IsHeader bytes.now header }
-    ensures { GivesInMemory (λ r. AreFileRows bytes.now options header.count r.rows.items r.settings) result
-        (first_failure (all_rows_conditions bytes.now options header.count)) }
+    ensures { GivesInMemory
+        (λ r. AreFileRows bytes.now options header.count r.rows.items r.settings) result
+        (first_failure (all_rows_checks bytes.now options header.count)) }
 {
     let mut rows = Vec::new(alloc);
     if header.count == 0 {
@@ -146,7 +147,8 @@ fn rows_of(alloc: Global, bytes: &[u8], header: Header, options: Options) -> Res
     Ok(FileRows { rows, settings })
 }
 
-/// Whether each of so many rows is in UTF-8, given the encoding of the first and that of the others.
+/// Whether each of so many rows is in UTF-8, given the encoding of the first and that of the
+/// others.
 fn is_in_utf8(count: usize, first: Encoding, later: Encoding) -> bool
     ensures { result ≡ is_in_utf8 count first later }
 {

@@ -6,8 +6,10 @@ ghost use Rattle.writeable_core.specs.FirstFailure.{first_failure};
 ghost use Rattle.gettext.specs.Encoding.{is_valid};
 ghost use Rattle.gettext.specs.Messages.{has_id};
 ghost use Rattle.gettext.specs.Layout.{head_of, pieces_of, translations_of};
-ghost use Rattle.gettext.specs.Faults.{original_conditions, translation_conditions, row_conditions, rows_conditions, head_conditions};
-ghost use Rattle.gettext.specs.Reader.{Gives, GivesInMemory, IsHeader, IsTextSpan, head_span, IsReadRow, Pushed};
+ghost use Rattle.gettext.specs.Faults.{original_conditions, translation_conditions, row_conditions};
+ghost use Rattle.gettext.specs.Faults.{rows_conditions, head_conditions};
+ghost use Rattle.gettext.specs.Reader.{Gives, GivesInMemory, IsHeader, IsTextSpan, head_span};
+ghost use Rattle.gettext.specs.Reader.{IsReadRow, Pushed};
 
 use super::layout::{Header, text_at};
 use crate::encoding::Encoding;

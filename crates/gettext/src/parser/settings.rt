@@ -6,7 +6,7 @@ ghost use Rattle.writeable_core.specs.FirstFailure.{first_failure};
 ghost use Rattle.gettext.specs.declared.error.Error.TheVariants.{PluralParsing, UnknownEncoding};
 ghost use Rattle.gettext.specs.Metadata.{fields_of, charset_in, gives};
 ghost use Rattle.gettext.specs.Mo.{first_encoding, encoding_by, fields_in_file};
-ghost use Rattle.gettext.specs.Faults.{metadata_conditions, rule_by};
+ghost use Rattle.gettext.specs.Checks.{metadata_checks, rule_by};
 ghost use Rattle.gettext.specs.Reader.{GivesInMemory, IsReadRow};
 ghost use Rattle.gettext.specs.Rule.{rule_shown};
 ghost use Rattle.gettext.specs.Settings.{IsSettings, Answers};
@@ -55,8 +55,9 @@ impl Settings {
         options: Options,
     ) -> Result<Settings, Error>
         requires { IsReadRow bytes.now (first_encoding options) 0 row }
-        ensures { GivesInMemory (IsSettings options (unwrap_or (fields_in_file bytes.now options) [])) result
-            (first_failure (metadata_conditions options (fields_in_file bytes.now options))) }
+        ensures { GivesInMemory
+            (IsSettings options (unwrap_or (fields_in_file bytes.now options) [])) result
+            (first_failure (metadata_checks options (fields_in_file bytes.now options))) }
     {
         if has_id(bytes_of(bytes, row.key)) {
             return Ok(Settings::plain(options));
@@ -81,7 +82,7 @@ impl Settings {
     #[tactic(auto, unfolding(crate::specs::Faults::metadata_conditions))]
     fn of_text(alloc: Global, text: &str, options: Options) -> Result<Settings, Error>
         ensures { GivesInMemory (IsSettings options (unwrap_or (fields_of text.now) [])) result
-            (first_failure (metadata_conditions options (fields_of text.now))) }
+            (first_failure (metadata_checks options (fields_of text.now))) }
     {
         let metadata = parse_metadata(alloc, text)?;
         let encoding = named_encoding(options, &metadata)?;
@@ -104,7 +105,8 @@ impl Settings {
 
 /// The encoding that is forced, else the one that the charset names, else UTF-8.
 fn named_encoding(options: Options, metadata: &MetadataMap<'_>) -> Result<Encoding, Error>
-    ensures { Answers (λ e. e) result (encoding_by options.encoding (option_and_then charset_in (gives metadata.now (codes "Content-Type")))) UnknownEncoding }
+    ensures { Answers (λ e. e) result (encoding_by options.encoding
+        (option_and_then charset_in (gives metadata.now (codes "Content-Type")))) UnknownEncoding }
 {
     if let Some(forced) = options.encoding {
         return Ok(forced);
@@ -117,7 +119,8 @@ fn named_encoding(options: Options, metadata: &MetadataMap<'_>) -> Result<Encodi
 
 /// The expression, if there is one, else the default rule.
 fn rule_of(alloc: Global, expression: Option<&str>) -> Result<PluralRule, Error>
-    ensures { Answers rule_shown result (rule_by false (option_map (λ s. s.now) expression.entry)) PluralParsing }
+    ensures { Answers rule_shown result
+        (rule_by false (option_map (λ s. s.now) expression.entry)) PluralParsing }
 {
     match expression {
         Some(expression) => Ok(PluralRule::Expr(Ast::parse(alloc, expression)?)),

@@ -1,5 +1,5 @@
-//! Plural expressions (the GNU gettext manual, 'Additional functions for plural forms'): C's conditional
-//! expressions over one unsigned number of 64 bits.
+//! Plural expressions (the GNU gettext manual, 'Additional functions for plural forms'): C's
+//! conditional expressions over one unsigned number of 64 bits.
 
 ghost use Rattle.std.specs.Prelude.{◌≡◌, ◌⊎◌, ◌↔◌, ℕ, List, Some, IfOk, IfErr};
 ghost use Rattle.std.specs.Str.{chars};
@@ -51,7 +51,8 @@ impl Ast {
     /// `PluralParsing`: parentheses count for the height, and leave no node.
     pub fn parse(alloc: Global, src: &str) -> Result<Ast, Error>
         ensures ok { IfOk result (λ ast. expr (chars src.now) (tree_of ast)) }
-        ensures err { IfErr result (λ e. (e ≡ NoMemory) ⊎ ((e ≡ PluralParsing) × IsNoExpression (chars src.now))) }
+        ensures err { IfErr result
+            (λ e. (e ≡ NoMemory) ⊎ ((e ≡ PluralParsing) × IsNoExpression (chars src.now))) }
     {
         let tokens = tokens_of(alloc, src.as_bytes())?;
         whole(alloc, &tokens)
@@ -92,7 +93,8 @@ impl Ast {
 /// The expression that all of the tokens are.
 fn whole(alloc: Global, tokens: &[Token]) -> Result<Ast, Error>
     ensures ok { IfOk result (λ ast. IsWhole tokens.now (tree_of ast)) }
-    ensures err { IfErr result (λ e. (e ≡ NoMemory) ⊎ ((e ≡ PluralParsing) × IsNoWhole tokens.now)) }
+    ensures err { IfErr result
+        (λ e. (e ≡ NoMemory) ⊎ ((e ≡ PluralParsing) × IsNoWhole tokens.now)) }
 {
     let part = part_at(alloc, tokens, Level::Conditional, HEIGHT_LIMIT)?;
     if !part.rest.is_empty() {

@@ -1,11 +1,13 @@
 //! The grammar of plural expressions, level by level.
 
-ghost use Rattle.std.specs.Prelude.{◌≡◌, ◌+◌, ◌-◌, ◌<◌, ◌≤◌, ◌^◌, max, MatchResult, IfOk, IfSome, None};
+ghost use Rattle.std.specs.Prelude.{◌≡◌, ◌+◌, ◌-◌, ◌<◌, ◌≤◌, ◌^◌, max, MatchResult, IfOk, IfSome};
+ghost use Rattle.std.specs.Prelude.{None};
 ghost use Rattle.std.specs.Option.{option_map};
 ghost use Rattle.gettext.specs.declared.error.Error.TheVariants.{NoMemory};
 ghost use Rattle.gettext.specs.declared.plurals.grammar.Level.TheVariants as Level;
 ghost use Rattle.gettext.specs.Grammar.{rank, tighter, level_of};
-ghost use Rattle.gettext.specs.Parsing.{IsParsed, found_of, parse, leaf_at, is_mark, after, operator_at, closed, negated, joined, chosen, IsBinary};
+ghost use Rattle.gettext.specs.Parsing.{IsParsed, found_of, parse, leaf_at, is_mark, after};
+ghost use Rattle.gettext.specs.Parsing.{operator_at, closed, negated, joined, chosen, IsBinary};
 
 use super::expression::{Ast, Operator};
 use super::tokens::Token;
@@ -112,6 +114,7 @@ pub struct Part<'a> {
 
 /// The part of a level that the tokens begin with, if its height is at most `budget`.
 #[cycle(grammar)]
+#[tactic(auto, using(crate::proofs::Chains::parsed))]
 pub fn part_at(
     alloc: Global,
     tokens: &[Token],
@@ -133,6 +136,7 @@ pub fn part_at(
 }
 
 #[cycle(grammar)]
+#[tactic(auto, using(crate::proofs::Chains::parsed))]
 fn atom(alloc: Global, tokens: &[Token], budget: u32) -> Result<Part<'_>, Error>
     requires { 0 < budget }
     ensures found { IsParsed found_of result (parse budget Level.Atom tokens.now) }
@@ -145,6 +149,7 @@ fn atom(alloc: Global, tokens: &[Token], budget: u32) -> Result<Part<'_>, Error>
 }
 
 #[cycle(grammar)]
+#[tactic(auto, using(crate::proofs::Chains::parsed))]
 fn in_parentheses(alloc: Global, tokens: &[Token], budget: u32) -> Result<Part<'_>, Error>
     requires positive { 0 < budget }
     requires no_leaf { leaf_at tokens.now ≡ None }
@@ -162,6 +167,7 @@ fn in_parentheses(alloc: Global, tokens: &[Token], budget: u32) -> Result<Part<'
 }
 
 #[cycle(grammar)]
+#[tactic(auto, using(crate::proofs::Chains::parsed))]
 fn unary(alloc: Global, tokens: &[Token], budget: u32) -> Result<Part<'_>, Error>
     requires { 0 < budget }
     ensures found { IsParsed found_of result (parse budget Level.Unary tokens.now) }
@@ -176,6 +182,7 @@ fn unary(alloc: Global, tokens: &[Token], budget: u32) -> Result<Part<'_>, Error
 
 /// Parts of the next tighter level with operators of this level between them, from left to right.
 #[cycle(grammar)]
+#[tactic(auto, using(crate::proofs::Chains::parsed))]
 fn chain(alloc: Global, tokens: &[Token], level: Level, budget: u32) -> Result<Part<'_>, Error>
     requires positive { 0 < budget }
     requires binary { IsBinary level }
@@ -194,6 +201,7 @@ fn chain(alloc: Global, tokens: &[Token], level: Level, budget: u32) -> Result<P
 }
 
 #[cycle(grammar)]
+#[tactic(auto, using(crate::proofs::Chains::parsed))]
 fn conditional(alloc: Global, tokens: &[Token], budget: u32) -> Result<Part<'_>, Error>
     requires { 0 < budget }
     ensures found { IsParsed found_of result (parse budget Level.Conditional tokens.now) }
@@ -246,7 +254,8 @@ fn closed<'a>(inside: Part<'a>, rest: &'a [Token]) -> Part<'a>
 
 fn negated(alloc: Global, operand: Part<'_>) -> Result<Part<'_>, Error>
     requires { operand.height + 1 < 2 ^ 32 }
-    ensures { MatchResult result (λ p. found_of p ≡ negated (found_of operand.entry)) (λ e. e ≡ NoMemory) }
+    ensures { MatchResult result (λ p. found_of p ≡ negated (found_of operand.entry))
+        (λ e. e ≡ NoMemory) }
 {
     Ok(Part {
         tree: Ast::Not(Box::new(alloc, operand.tree)?),
@@ -262,7 +271,9 @@ fn joined<'a>(
     right: Part<'a>,
 ) -> Result<Part<'a>, Error>
     requires { max left.height right.height + 1 < 2 ^ 32 }
-    ensures { MatchResult result (λ p. found_of p ≡ joined operator (found_of left.entry) (found_of right.entry)) (λ e. e ≡ NoMemory) }
+    ensures { MatchResult result
+        (λ p. found_of p ≡ joined operator (found_of left.entry) (found_of right.entry))
+        (λ e. e ≡ NoMemory) }
 {
     Ok(Part {
         height: left.height.max(right.height) + 1,
@@ -282,7 +293,10 @@ fn chosen<'a>(
     second: Part<'a>,
 ) -> Result<Part<'a>, Error>
     requires { max condition.height (max first.height second.height) + 1 < 2 ^ 32 }
-    ensures { MatchResult result (λ p. found_of p ≡ chosen (found_of condition.entry) (found_of first.entry) (found_of second.entry)) (λ e. e ≡ NoMemory) }
+    ensures { MatchResult result
+        (λ p. found_of p
+        ≡ chosen (found_of condition.entry) (found_of first.entry) (found_of second.entry))
+        (λ e. e ≡ NoMemory) }
 {
     Ok(Part {
         height: condition.height.max(first.height.max(second.height)) + 1,

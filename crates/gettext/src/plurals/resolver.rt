@@ -1,6 +1,7 @@
 //! How the number of a form follows from a count.
 
-ghost use Rattle.std.specs.Prelude.{◌≡◌, ℕ, ◌<◌, ◌^◌, ◌==◌, Bool, true, false, Option, Some, None, IsSomeAnd, if◌then◌else◌};
+ghost use Rattle.std.specs.Prelude.{◌≡◌, ℕ, ◌<◌, ◌^◌, ◌==◌, Bool, true, false, Option, Some, None};
+ghost use Rattle.std.specs.Prelude.{IsSomeAnd, if◌then◌else◌};
 ghost use Rattle.std.specs.Option.{option_map};
 ghost use Rattle.gettext.specs.Expression.{tree_of, value};
 ghost use Rattle.gettext.specs.Messages.{value_by};
@@ -99,7 +100,8 @@ impl Resolver {
     /// The number of the form for `n`. None where an expression has no value.
     pub fn resolve(&self, n: u64) -> Option<usize>
         ensures expression { (e : Ast) → self.now ≡ Resolver.Expr e → result ≡ value (tree_of e) n }
-        ensures function { (f : _) → self.now ≡ Resolver.Function f → IsSomeAnd result (λ k. post f.plural n k) }
+        ensures function { (f : _) → self.now ≡ Resolver.Function f
+            → IsSomeAnd result (λ k. post f.plural n k) }
         ensures default { self.now ≡ Resolver.Default → result ≡ Some (if n == 1 then 0 else 1) }
     {
         match self {

@@ -51,7 +51,8 @@ const WORDS: [(&[u8], Token); 19] = [
 /// The tokens of a text, in order.
 pub fn tokens_of(alloc: Global, text: &[u8]) -> Result<Vec<Token>, Error>
     ensures ok { IfOk result (λ tokens. Reads text.now tokens.items) }
-    ensures err { IfErr result (λ e. (e ≡ NoMemory) ⊎ ((e ≡ PluralParsing) × IsUnreadable text.now)) }
+    ensures err { IfErr result
+        (λ e. (e ≡ NoMemory) ⊎ ((e ≡ PluralParsing) × IsUnreadable text.now)) }
 {
     let mut tokens = Vec::new(alloc);
     let mut rest = text;

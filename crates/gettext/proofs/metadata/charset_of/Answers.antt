@@ -5,17 +5,18 @@ use Rattle.gettext.proofs.metadata.charset_of.Goals as goal
 
 pub returns-in_err-rest : goal.returns-in_err-rest
 unfolding charset_in
-returns-in_err-rest c = rw (c.from_residual.ensures, after_word-none charset_word c.args.content_type.now c.in_err-rest.ensures.cases) refl
+returns-in_err-rest c =
+    rw (c.from_residual.ensures, after_word-none charset_word _ c.in_err-rest.ensures.cases) refl
 
 pub returns-in-Some : goal.returns-in-Some
 unfolding charset_in
 returns-in-Some c =
-    let first = word_parts charset_word c.args.content_type.now c.in_ok-rest.field-0-0.now c.in_ok-rest.rest.now (omega arith) c.in_ok-rest.ensures.cases in
-    let second = word_parts charset_word c.in_ok-rest.rest.now c.in-Some.name.now c.in-Some.field-0-1.now (omega arith) c.in-Some.ensures.cases in
+    let first = word_parts charset_word _ _ _ (omega arith) c.in_ok-rest.ensures.cases in
+    let second = word_parts charset_word _ _ _ (omega arith) c.in-Some.ensures.cases in
     rw (first.0, second.1) refl
 
 pub returns-in-None : goal.returns-in-None
 unfolding charset_in
 returns-in-None c =
-    let first = word_parts charset_word c.args.content_type.now c.in_ok-rest.field-0-0.now c.in_ok-rest.rest.now (omega arith) c.in_ok-rest.ensures.cases in
-    rw (first.0, before_word-none charset_word c.in_ok-rest.rest.now c.in-None.ensures.cases) refl
+    let first = word_parts charset_word _ _ _ (omega arith) c.in_ok-rest.ensures.cases in
+    rw (first.0, before_word-none charset_word _ c.in-None.ensures.cases) refl

@@ -8,4 +8,6 @@ use Rattle.gettext.proofs.spans.nul_place.Goals as goal
 pub returns-clause-value : goal.returns-clause-value
 returns-clause-value c =
     c.unwrap_or.ensures
-    ∙ first_place is_nul c.args.text.now c.position.result _ (position_from_yields_List is_nul _ _ c.position.result c.position.ensures.ran (YieldsList-from_slice c.args.text.now cc) (λ x b q k. search (rules, tests))) refl
+    ∙ first_place is_nul c.args.text.now c.position.result
+    _ (position_from_yields_List is_nul _ _ c.position.result c.position.ensures.ran
+    (YieldsList-from_slice c.args.text.now cc) (λ x b q k. search (rules, tests))) refl

@@ -7,5 +7,6 @@ use Rattle.gettext.proofs.spans.piece_count.Goals as goal
 pub returns : goal.returns
 unfolding pieces_of
 returns c =
-    count_from_yields_List c.split.result c.count.result c.count.ensures.ran
-    (YieldsList-from_slice_split _ is_nul c.args.text.now c.split.ensures.rest c.split.ensures.done c.split.ensures.closure (λ x b q k. search (rules, tests)))
+    count_from_yields_List _ _ c.count.ensures.ran
+    (YieldsList-from_slice_split _ is_nul _ c.split.ensures.rest c.split.ensures.done
+    c.split.ensures.closure (λ x b q k. search (rules, tests)))

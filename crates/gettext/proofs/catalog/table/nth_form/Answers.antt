@@ -13,7 +13,8 @@ pub from_utf8_unchecked-requires : goal.from_utf8_unchecked-requires
 unfolding form_bytes
 from_utf8_unchecked-requires c =
     IsUtf8-from_is_utf8 c.in_ok-form.form.now
-    (list_all-slice_get is_utf8 (form_bytes c.args.buffer.now c.args.row) c.args.number c.in_ok-form.form.now c.requires.forms (rw (← c.bytes_of.ensures) (sym c.in_ok-form.ensures)))
+    (list_all-slice_get is_utf8 (form_bytes c.args.buffer.now c.args.row) c.args.number
+    c.in_ok-form.form.now c.requires.forms (rw (← c.bytes_of.ensures) (sym c.in_ok-form.ensures)))
 
 pub returns : goal.returns
 unfolding form_bytes

@@ -6,17 +6,29 @@ use Rattle.gettext.proofs.encoding.Encoding.from_label.Goals as goal
 pub returns-then-is_among : goal.returns-then-is_among
 unfolding encoding_of
 returns-then-is_among c =
-    let name = trimmed-is c.args.label.now c.trim_ascii-name.result.now c.trim_ascii-name.ensures.value in
+    let name = trimmed-is _ _ c.trim_ascii-name.ensures.value in
     rw (← name, ← c.is_among.ensures, c.if-is_among.true) refl
 
 pub returns-then-is_among-2 : goal.returns-then-is_among-2
 unfolding encoding_of
 returns-then-is_among-2 c =
-    let name = trimmed-is c.args.label.now c.trim_ascii-name.result.now c.trim_ascii-name.ensures.value in
-    rw (← name, ← c.is_among.ensures, c.if-is_among.false, ← c.is_among-else-is_among.ensures, c.if-is_among-2.true) refl
+    let name = trimmed-is _ _ c.trim_ascii-name.ensures.value in
+    rw (
+      ← name,
+      ← c.is_among.ensures,
+      c.if-is_among.false,
+      ← c.is_among-else-is_among.ensures,
+      c.if-is_among-2.true,
+    ) refl
 
 pub returns-else-is_among-2 : goal.returns-else-is_among-2
 unfolding encoding_of
 returns-else-is_among-2 c =
-    let name = trimmed-is c.args.label.now c.trim_ascii-name.result.now c.trim_ascii-name.ensures.value in
-    rw (← name, ← c.is_among.ensures, c.if-is_among.false, ← c.is_among-else-is_among.ensures, c.if-is_among-2.false) refl
+    let name = trimmed-is _ _ c.trim_ascii-name.ensures.value in
+    rw (
+      ← name,
+      ← c.is_among.ensures,
+      c.if-is_among.false,
+      ← c.is_among-else-is_among.ensures,
+      c.if-is_among-2.false,
+    ) refl

@@ -6,10 +6,14 @@ use Rattle.gettext.proofs.encoding.Encoding.push_decoded.Goals as goal
 
 pub loop-byte-preserved : goal.loop-byte-preserved
 loop-byte-preserved c =
-    let pushed = c.in_ok-push_char-in-Latin1.ensures ∙ ap (λ char. c.loop-byte.texts.items ++ encode_utf8 char) c.from.ensures in
-    spelled-more encode_utf8 (utf8_in Latin1) Latin1-spells c.args.bytes.now c.args.texts.now.items c.loop-byte.texts.items c.push_char.new.texts.items c.loop-byte.byte-index (omega arith) c.loop-byte.invariant pushed
+    let pushed = c.in_ok-push_char-in-Latin1.ensures
+    ∙ ap (λ char. c.loop-byte.texts.items ++ encode_utf8 char) c.from.ensures in
+    spelled-more encode_utf8 (utf8_in Latin1) Latin1-spells _ _ _ _ _ (omega arith)
+    c.loop-byte.invariant pushed
 
 pub loop-byte-2-preserved : goal.loop-byte-2-preserved
 loop-byte-2-preserved c =
-    let pushed = c.in_ok-push_char-in-Windows1252.ensures ∙ ap (λ char. c.loop-byte-2.texts.items ++ encode_utf8 char) c.windows_1252_char.ensures in
-    spelled-more (λ byte. encode_utf8 (windows_1252 byte)) (utf8_in Windows1252) Windows1252-spells c.args.bytes.now c.args.texts.now.items c.loop-byte-2.texts.items c.push_char-in-loop-byte-2.new.texts.items c.loop-byte-2.byte-index (omega arith) c.loop-byte-2.invariant pushed
+    let pushed = c.in_ok-push_char-in-Windows1252.ensures
+    ∙ ap (λ char. c.loop-byte-2.texts.items ++ encode_utf8 char) c.windows_1252_char.ensures in
+    spelled-more (λ byte. encode_utf8 (windows_1252 byte)) (utf8_in Windows1252) Windows1252-spells
+    _ _ _ _ _ (omega arith) c.loop-byte-2.invariant pushed

@@ -1,12 +1,7 @@
-use Rattle.std.proofs.Common.{refl}
 use Rattle.std.proofs.lemmas.Result.{err_from_is_err_and}
-use Rattle.gettext.proofs.Parsed.{source_around, unread_around}
 use Rattle.gettext.proofs.parser.ParseOptions.parse.Goals as goal
 
 pub returns-in_err-entries-clause-read : goal.returns-in_err-entries-clause-read
 returns-in_err-entries-clause-read g c =
     let p = err_from_is_err_and c.from_residual.result c.from_residual.ensures.1 in
-    rw (p.1, p.2) (unread_around _ _ _ _ _ _ _ _ _ (rw c.options.ensures at c.in_err-entries.ensures))
-
-pub returns-clause-read : goal.returns-clause-read
-returns-clause-read g c = source_around _ _ _ _ _ _ _ _ c.in_ok-entries.entries _ refl (rw c.options.ensures at c.in_ok-entries.ensures)
+    rw (p.1, p.2) (rw c.options.ensures at c.in_err-entries.ensures)

@@ -4,5 +4,8 @@ use Rattle.gettext.proofs.parser.decoding.push_row.Goals as goal
 
 pub returns : goal.returns
 returns c =
-    row_pushed c.args.bytes.now c.args.encoding c.args.row c.args.texts.now.items c.push_decoded.new.texts.items c.push_decoded-2.new.texts.items _
-    (rw (← c.bytes_of.ensures) c.in_ok-push_decoded.ensures) (rw (← c.bytes_of-2.ensures) c.in_ok-push_decoded-2.ensures) (c.len-start.ensures ∙ c.args.texts.now.ok.0) (c.len-middle.ensures ∙ c.push_decoded.new.texts.ok.0) refl (c.len.ensures ∙ c.push_decoded-2.new.texts.ok.0)
+    row_pushed _ _ _ _ _ _ _ (rw (← c.bytes_of.ensures) c.in_ok-push_decoded.ensures)
+    (rw (← c.bytes_of-2.ensures) c.in_ok-push_decoded-2.ensures)
+    (c.len-start.ensures ∙ c.args.texts.now.ok.0)
+    (c.len-middle.ensures ∙ c.push_decoded.new.texts.ok.0) refl
+    (c.len.ensures ∙ c.push_decoded-2.new.texts.ok.0)

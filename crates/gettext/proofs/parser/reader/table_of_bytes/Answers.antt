@@ -7,15 +7,11 @@ use Rattle.gettext.proofs.parser.reader.table_of_bytes.Goals as goal
 pub returns-in_err-texts : goal.returns-in_err-texts
 returns-in_err-texts c =
     let p = err_from_is_err_and c.from_residual.result c.from_residual.ensures.1 in
-    rw (p.1, p.2) (bytes_refused _ c.args.bytes.now c.args.options _ c.in_err-texts.ensures)
-
-pub returns-in_err-buffer : goal.returns-in_err-buffer
-returns-in_err-buffer c =
-    let p = err_from_is_err_and c.from_residual-in_err-buffer.result c.from_residual-in_err-buffer.ensures.1 in
-    rw (p.1, p.2) (bytes_refused _ c.args.bytes.now c.args.options _ (inl refl))
+    rw (p.1, p.2) (bytes_refused c.args.bytes.now c.args.options _ c.in_err-texts.ensures)
 
 pub returns : goal.returns
 unfolding held
 returns c =
     rw (c.new.ensures, c.in_ok-buffer.ensures)
-    (bytes_read _ c.args.bytes.now c.args.options _ c.in_ok-texts.ensures.1 c.in_ok-texts.ensures.0.stands (λ u. rw (c.in_ok-texts.ensures.0.plain u) refl))
+    (bytes_read _ _ _ c.in_ok-texts.ensures.1 c.in_ok-texts.ensures.0.stands
+    (λ u. rw (c.in_ok-texts.ensures.0.plain u) refl))

@@ -8,6 +8,6 @@ use Rattle.gettext.proofs.parser.rows.are_valid.Goals as goal
 pub returns : goal.returns
 unfolding pieces_of
 returns c =
-    all_from_yields_List (is_valid c.args.encoding) _ _ _ c.all.ensures.ran
-    (YieldsList-from_slice_split _ is_nul c.args.forms.now c.split.ensures.rest c.split.ensures.done c.split.ensures.closure (λ x b q k. search (rules, tests)))
-    (λ x b q k. search (rules, tests))
+    all_from_yields_List (is_valid _) _ _ _ c.all.ensures.ran
+    (YieldsList-from_slice_split _ is_nul _ c.split.ensures.rest c.split.ensures.done
+    c.split.ensures.closure (λ x b q k. search (rules, tests))) (λ x b q k. search (rules, tests))

@@ -3,4 +3,10 @@ use Rattle.gettext.proofs.Conditions.{ends-place}
 use Rattle.gettext.proofs.parser.rows.has_id.Goals as goal
 
 pub returns-then-not-is_empty : goal.returns-then-not-is_empty
-returns-then-not-is_empty c = rw (sym c.is_empty.ensures ∙ c.if-not-is_empty.true, c.separator_place.ensures.value, ends-place c.args.key.now) refl
+returns-then-not-is_empty c =
+    rw (
+      sym c.is_empty.ensures
+          ∙ c.if-not-is_empty.true,
+      c.separator_place.ensures.value,
+      ends-place _,
+    ) refl

@@ -8,4 +8,6 @@ use Rattle.gettext.proofs.parser.rows.separator_place.Goals as goal
 pub returns-clause-value : goal.returns-clause-value
 returns-clause-value c =
     c.unwrap_or.ensures
-    ∙ first_place (λ byte. byte == 4) c.args.key.now c.position.result _ (position_from_yields_List (λ byte. byte == 4) _ _ c.position.result c.position.ensures.ran (YieldsList-from_slice c.args.key.now cc) (λ x b q k. search (rules, tests))) refl
+    ∙ first_place (λ byte. byte == 4) c.args.key.now c.position.result
+    _ (position_from_yields_List (λ byte. byte == 4) _ _ c.position.result c.position.ensures.ran
+    (YieldsList-from_slice c.args.key.now cc) (λ x b q k. search (rules, tests))) refl

@@ -9,5 +9,8 @@ use Rattle.gettext.proofs.plurals.tokens.digits_len.Goals as goal
 pub returns-clause-value : goal.returns-clause-value
 returns-clause-value c =
     count_from_yields_List c.take_while.result c.count.result c.count.ensures.ran
-    (YieldsList-from_take_while _ is_ascii_digit (YieldsList-at c.take_while.ensures.source (YieldsList-from_slice c.args.text.now c.iter.ensures.rest)) c.take_while.ensures.closure c.take_while.ensures.done (λ x b q k. search (rules, tests)))
+    (YieldsList-from_take_while _ is_ascii_digit
+    (YieldsList-at c.take_while.ensures.source
+    (YieldsList-from_slice c.args.text.now c.iter.ensures.rest)) c.take_while.ensures.closure
+    c.take_while.ensures.done (λ x b q k. search (rules, tests)))
     ∙ length-prefix_len is_ascii_digit c.args.text.now

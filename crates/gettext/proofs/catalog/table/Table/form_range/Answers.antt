@@ -6,14 +6,16 @@ pub returns-in_err-row : goal.returns-in_err-row
 unfolding held
 returns-in_err-row c =
     let none = rw (c.deref.ensures.value, c.deref-2.ensures.value) at c.in_err-row.ensures.found in
-    rw (c.from_residual.ensures, ← c.self.view_is) (no_range c.self.inside.buffer.items c.self.inside.rows.items c.self.inside.rule _ c.self.invariant.table.rows_fit c.args.number none)
+    rw (c.from_residual.ensures, ← c.self.view_is)
+    (no_range _ _ _ _ c.self.invariant.table.rows_fit _ none)
 
 pub returns-in_err-start : goal.returns-in_err-start
 unfolding held form_bytes
 returns-in_err-start c =
     let found = rw (c.deref.ensures.value, c.deref-2.ensures.value) at c.in_ok-row.ensures.found in
     let none = rw (c.bytes_of.ensures, c.deref-3.ensures.value) at c.in_err-start.ensures in
-    rw (c.from_residual-in_err-start.ensures, ← c.self.view_is) (no_piece c.self.inside.buffer.items c.self.inside.rows.items c.self.inside.rule _ c.self.invariant.table.rows_fit c.args.number c.in_ok-row.row found none)
+    rw (c.from_residual-in_err-start.ensures, ← c.self.view_is)
+    (no_piece _ _ _ _ c.self.invariant.table.rows_fit _ _ found none)
 
 pub returns : goal.returns
 unfolding held form_bytes
@@ -21,4 +23,4 @@ returns c =
     let found = rw (c.deref.ensures.value, c.deref-2.ensures.value) at c.in_ok-row.ensures.found in
     let fits = rw c.deref.ensures.value at c.in_ok-row.ensures.fits in
     let piece = rw (c.bytes_of.ensures, c.deref-3.ensures.value) at c.in_ok-start.ensures in
-    rw (← c.self.view_is) (ranged c.self.inside.buffer.items c.self.inside.rows.items c.self.inside.rule _ c.self.invariant.table.rows_fit c.args.number c.in_ok-row.row c.in_ok-start.start c.in_ok-start.end found fits piece)
+    rw (← c.self.view_is) (ranged _ _ _ _ c.self.invariant.table.rows_fit _ _ _ _ found fits piece)
