@@ -1,8 +1,8 @@
 """Hostile JSON texts, and how the program is to end over each.
 
 A text that JSON's grammar refuses has no value, nor has one that nests deeper than 127, one with
-half of a surrogate pair and one with a number too large for a float. Every other text has one value,
-in which the last of several members of one name stands.
+half of a surrogate pair and one with a number too large for a float. Every other text has one
+value, in which the last of several members of one name stands.
 """
 
 from __future__ import annotations

@@ -52,9 +52,10 @@ def sources() -> Iterator[tuple[object, object]]:
 
 
 # The ten lines of the realistic document as they are pushed. The rules fix the lines, and that a
-# push that fails takes nothing; where a line is cut they leave open. So this is the cut that the
-# rows of localise_run have: what stands before the placeholder, each item, each text of a pattern,
-# empty ones too, what stands behind the placeholder, and the line feed.
+# push that fails takes nothing; where a line is cut they leave open. So the cut alone is taken from
+# the code (matching.rt of writeable_replace, formatted.rt of icu_list): what stands before the
+# placeholder, each item, each text of a pattern, empty ones too, what stands behind the
+# placeholder, and the line feed. Another cut would be as right, and would change this row.
 PUSHES = (
     ("Allô ", "Ana", "\n"),
     ("2", " fichiers", "\n"),
