@@ -10,8 +10,8 @@ use Rattle.localise_run.specs.Run.{Gives, written}
 use Rattle.localise_status.specs.declared.status.Status.{Status}
 use Rattle.localise_run.proofs.render.write_lines.Goals as goal
 
-pub returns-in-Err-locale_of : goal.returns-in-Err-locale_of
-returns-in-Err-locale_of g c = λ bundles alike.
+pub returns-in-Err : goal.returns-in-Err
+returns-in-Err g c = λ bundles alike.
     let T = c.args.tables.now in
     let root = root_of c.args.localiser.now in
     let q = c.index-requests-number.result in
@@ -19,11 +19,11 @@ returns-in-Err-locale_of g c = λ bundles alike.
     let end = c.loop-number.auto.number-end in
     let within : c.loop-number.number < length c.args.requests.now = omega (arith, c.loop-number-test.true) in
     subst (λ (s : Status). Gives took (AreRendered T bundles root c.args.requests.now) (BeginRendered T bundles root c.args.requests.now) (written g.O.Sink.faults c.args.out.now c.loop-number.out) s)
-    (sym c.of_tag-in-Err-locale_of.ensures)
+    (sym c.of_tag.ensures)
     (wrote_to_tag took g.O.Sink.faults g.met.O.Sink.took_both g.met.O.Sink.took_faults (IsLine T bundles root) (IsLineFault T bundles root) c.args.requests.now
-    c.args.out.now c.loop-number.out c.loop-number.number q c.in-Err-locale_of.cause (c.loop-number.invariant.0 bundles alike)
+    c.args.out.now c.loop-number.out c.loop-number.number q c.in-Err.cause (c.loop-number.invariant.0 bundles alike)
     (got c.args.requests.now c.loop-number.number q within c.index-requests-number.is)
-    (λ some. in_tag (c.in-Err-locale_of.ensures.err q (got c.args.requests.now c.loop-number.number q within c.index-requests-number.is) some)))
+    (λ some. in_tag (c.in-Err.ensures.err q (got c.args.requests.now c.loop-number.number q within c.index-requests-number.is) some)))
 
 pub write_request-requires-clause-wants : goal.write_request-requires-clause-wants
 write_request-requires-clause-wants g c =
