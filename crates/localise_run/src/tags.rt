@@ -15,7 +15,7 @@ use std::alloc::{AllocError, Global};
 use wanted_locale::{Tables, TagCause, wanted};
 
 /// How many places there are for tags.
-const PLACES: usize = 64;
+const PLACES: usize = 256;
 
 /// The number of a request whose tag was read, and the locale that it asks for.
 #[derive(Clone, Copy)]
@@ -120,7 +120,7 @@ fn place_of(tag: &str) -> usize
 {
     let mut sum: u8 = 0;
     for byte in tag.bytes() {
-        sum = sum.wrapping_mul(31).wrapping_add(byte);
+        sum = sum.wrapping_mul(33).wrapping_add(byte);
     }
-    sum as usize % PLACES
+    sum as usize
 }
