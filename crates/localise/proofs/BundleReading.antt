@@ -4,7 +4,7 @@ use Rattle.std.proofs.lemmas.Str.{encodes-chars}
 use Rattle.std.specs.Prelude.{IsUtf8, encode_utf8_all}
 use Rattle.std.specs.Str.{chars}
 use Rattle.gettext.specs.Faults.{mo_fault}
-use Rattle.gettext.specs.Messages.{Messages, form}
+use Rattle.gettext.specs.Messages.{Messages, StandsFor, form}
 use Rattle.gettext.specs.Mo.{entries}
 use Rattle.gettext.specs.Options.{plain_options}
 use Rattle.gettext.specs.declared.error.Error.{Error}
@@ -75,10 +75,11 @@ fault_in_list T number text bytes file l error e are same locale sound fault mem
 
 -- a bundle is read
 pub bundle_read : (T : Tables) (text : BundleText) (bytes file : List ℕ) (kept : Meaning) (c : Messages)
-    → ((given : Option ℕ) (key : List ℕ) (n : ℕ) → form kept.messages given key n ≡ form c given key n) → encode_utf8_all text.tag ≡ bytes → file ≡ text.mo → IsLocaleOf T bytes kept.locale
+    → StandsFor kept.messages c → ((given : Option ℕ) (key : List ℕ) (n : ℕ) → form kept.messages given key n ≡ form c given key n)
+    → encode_utf8_all text.tag ≡ bytes → file ≡ text.mo → IsLocaleOf T bytes kept.locale
     → entries file plain_options c → ArePatterns (list_texts text.list) kept.patterns
     → IsRead T text kept
-bundle_read T text bytes file kept c alike are same locale means patterns = record {
+bundle_read T text bytes file kept c stands alike are same locale means patterns = record {
   meaning = record { locale = kept.locale; messages = c; patterns = kept.patterns };
   means = record {
     locale = subst (λ t. IsLocaleOf T t kept.locale) (sym are) locale;
@@ -87,6 +88,7 @@ bundle_read T text bytes file kept c alike are same locale means patterns = reco
   };
   keeps = record {
     locale = refl;
+    messages = stands;
     forms = λ key n. alike None key n;
     patterns = refl;
   };

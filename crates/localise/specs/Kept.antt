@@ -1,6 +1,6 @@
 -- What a localiser keeps of bundles: it answers each request as the bundles do.
 use Rattle.std.specs.Prelude.{◌≡◌, ℕ, List, [], ◌∷◌, None}
-use Rattle.gettext.specs.Messages.{form}
+use Rattle.gettext.specs.Messages.{form, StandsFor}
 use Rattle.icu_list.specs.Patterns.{Patterns}
 use Rattle.icu_locale_core.specs.Locale.{Locale}
 use Rattle.localise.specs.Bundles.{AreAccepted, AreBundles, Means}
@@ -11,9 +11,11 @@ use Rattle.localise_texts.specs.declared.patterns.PatternTexts.{PatternTexts}
 use Rattle.localise_texts.specs.declared.request.Request.{Request}
 use Rattle.wanted_locale.specs.declared.tables.Tables.{Tables}
 
--- a bundle is kept with its locale and its patterns, and with messages that give each form alike
+-- a bundle is kept with its locale and its patterns, and with messages that stand for its own and
+-- give each form alike
 pub record Keeps (kept b : Meaning) : Type 0 where
   pub locale : kept.locale ≡ b.locale
+  pub messages : StandsFor kept.messages b.messages
   pub forms : (key : List ℕ) (n : ℕ) → form kept.messages None key n ≡ form b.messages None key n
   pub patterns : kept.patterns ≡ b.patterns
 

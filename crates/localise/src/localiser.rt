@@ -50,6 +50,10 @@ impl<'a> Localiser<'a> {
         ensures ok { IfOk result (λ localiser.
             Localises tables.now bundles.now root.now (meanings localiser) (root_of localiser)) }
         ensures tables { IfOk result (λ localiser. tables_of localiser ≡ tables.now) }
+        ensures kept { IfOk result (λ localiser.
+            AreRead tables.now bundles.now (meanings localiser)) }
+        ensures count { IfOk result (λ localiser.
+            length (meanings localiser) ≡ length bundles.now) }
         ensures err { IfErr result (λ e. e ≢ RenderError.NoMemory
             → IsRefusal tables.now bundles.now root.now e) }
     {

@@ -277,10 +277,12 @@ module _ {E : Type 0} (took : E → List ℕ → E → Type 0) (faults : E → �
   reported (Err sink.NoMemory) ok err cause = front err (inr (cause.no_memory refl))
 
   -- the output was flushed, or failed then
-  pub flushed_behind : (answer : Status) → took old [] new → IsFlushed took faults takes_memory old new answer answer
-  flushed_behind answer taken = flushed taken refl
+  pub flushed_behind : (flushes : E → E → Type 0) (answer : Status) → took old [] new → flushes old new
+      → IsFlushed took faults takes_memory flushes old new answer answer
+  flushed_behind flushes answer taken all = flushed taken all refl
 
-  pub flush_fails : (answer : Status) (e : SinkError) → took old [] new → HasCause {T = Unit {0}} (faults old) (faults new) (takes_memory old) (Err e)
-      → IsFlushed took faults takes_memory old new answer (status_of_sink e)
-  flush_fails answer sink.Fault taken cause = failed taken (cause.fault refl) refl
-  flush_fails answer sink.NoMemory taken cause = no_memory taken (cause.no_memory refl) refl
+  pub flush_fails : (flushes : E → E → Type 0) (answer : Status) (e : SinkError) → took old [] new
+      → HasCause {T = Unit {0}} (faults old) (faults new) (takes_memory old) (Err e)
+      → IsFlushed took faults takes_memory flushes old new answer (status_of_sink e)
+  flush_fails flushes answer sink.Fault taken cause = failed taken (cause.fault refl) refl
+  flush_fails flushes answer sink.NoMemory taken cause = no_memory taken (cause.no_memory refl) refl

@@ -70,15 +70,21 @@ Runs took command left before now x Answered answer = GivesRead took command lef
 Runs took command left before now x Writing answer = GivesRead took command left x answer
 Runs took command left before now x Memory answer = GivesRead took command left x answer
 
--- Behind a run its output is flushed, which appends nothing: the status is the run's answer, or that the output failed then.
-pub data IsFlushed {O : Type 0} (took : O → List ℕ → O → Type 0) (faults : O → ℕ) (takes_memory : O → Bool) (ran new : O) (answer status : Status) : Type 0 where
-  flushed : took ran [] new → status ≡ answer → IsFlushed took faults takes_memory ran new answer status
-  failed : took ran [] new → Rose (faults ran) (faults new) → status ≡ WriteFault → IsFlushed took faults takes_memory ran new answer status
-  no_memory : took ran [] new → takes_memory ran ≡ true → status ≡ NoMemory → IsFlushed took faults takes_memory ran new answer status
+-- Behind a run its output is flushed, which appends nothing: the status is the run's answer, where
+-- all that was held back was handed on, or that the output failed then.
+module _ {O : Type 0} (took : O → List ℕ → O → Type 0) (faults : O → ℕ) (takes_memory : O → Bool)
+    (flushes : O → O → Type 0) where
+  pub data IsFlushed (ran new : O) (answer status : Status) : Type 0 where
+    flushed : took ran [] new → flushes ran new → status ≡ answer → IsFlushed ran new answer status
+    failed : took ran [] new → Rose (faults ran) (faults new) → status ≡ WriteFault
+        → IsFlushed ran new answer status
+    no_memory : took ran [] new → takes_memory ran ≡ true → status ≡ NoMemory
+        → IsFlushed ran new answer status
 
--- A command runs, and its output is flushed.
-pub record RunsAndFlushes {O : Type 0} (took : O → List ℕ → O → Type 0) (faults : O → ℕ) (takes_memory : O → Bool) (command : Command) (left : Option (List ℕ)) (before now : ℕ) (old new : O) (status : Status) : Type 0 where
-  pub answer : Status
-  pub ran : O
-  pub runs : Runs took command left before now (written faults old ran) (class_of answer) answer
-  pub is_flushed : IsFlushed took faults takes_memory ran new answer status
+  -- A command runs, and its output is flushed.
+  pub record RunsAndFlushes (command : Command) (left : Option (List ℕ)) (before now : ℕ) (old new : O)
+      (status : Status) : Type 0 where
+    pub answer : Status
+    pub ran : O
+    pub runs : Runs took command left before now (written faults old ran) (class_of answer) answer
+    pub is_flushed : IsFlushed ran new answer status

@@ -88,12 +88,14 @@ pub fn run_and_flush<S: Source, O: FlushSink, E: Sink>(
     err: &mut E,
 ) -> Status
     ensures runs { (command : Command) → IsCommand words.now command
-        → RunsAndFlushes O.Sink.took O.Sink.faults O.Sink.takes_memory command (S.left source.old)
-        (S.faults source.old) (S.faults source.new) out.old out.new result }
+        → RunsAndFlushes O.Sink.took O.Sink.faults O.Sink.takes_memory O.flushes command
+        (S.left source.old) (S.faults source.old) (S.faults source.new) out.old out.new result }
     ensures bad_words { AreNoCommand words.now → IsFlushed O.Sink.took O.Sink.faults
-        O.Sink.takes_memory out.old out.new Status.BadWords result }
+        O.Sink.takes_memory O.flushes out.old out.new Status.BadWords result }
     ensures read_to_end { ComesAtEnd result → result ≢ Status.WriteFault
         → IsReadToEnd S.left S.ended S.faults source.old source.new }
+    ensures unread { AreNoCommand words.now → source.new ≡ source.old }
+    ensures no_fault { result ≡ Status.TooLong → S.faults source.new ≡ S.faults source.old }
     ensures silent { result ≡ Status.Done → err.new ≡ err.old }
     ensures told { result ≢ Status.Done
         → IsReported E.took E.faults E.takes_memory err.old (fault_line result) err.new }
@@ -106,7 +108,8 @@ pub fn run_and_flush<S: Source, O: FlushSink, E: Sink>(
 
 /// Flushes an output behind a run that had an answer.
 fn flush_behind<O: FlushSink>(answer: Status, out: &mut O) -> Status
-    ensures { IsFlushed O.Sink.took O.Sink.faults O.Sink.takes_memory out.old out.new answer result }
+    ensures { IsFlushed O.Sink.took O.Sink.faults O.Sink.takes_memory O.flushes out.old out.new
+        answer result }
 {
     match out.flush() {
         Ok(()) => answer,

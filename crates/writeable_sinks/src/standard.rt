@@ -117,11 +117,13 @@ impl<W: Write> Sink for StdSink<W> {
 }
 
 impl<W: Write> FlushSink for StdSink<W> {
+    ghost flushes = { λ a b. b.faults ≡ a.faults };
+
     /// Flushes the writer. An `Err` of it is a fault.
     fn flush(&mut self) -> Result<(), SinkError>
         ensures taken { Writes W.contents self.old [] self.new }
         ensures cause { HasCause self.old.faults self.new.faults false result }
-        ensures no_fault { OnOk result (self.new.faults ≡ self.old.faults) }
+        ensures flushed { OnOk result (self.new.faults ≡ self.old.faults) }
         ensures kept { Keeps (W.contents self.old.writer) (W.contents self.new.writer) }
     {
         match self.writer.flush() {

@@ -29,6 +29,6 @@ returns-clause-ok c =
     let means = c.in-Ok-parse_bytes.ensures.ok in
     bundle_read c.args.tables.now c.args.text.now c.as_str.result.now c.as_slice.result.now
     (meaning_of (record { locale = c.in-Ok.locale; catalog = c.in-Ok-parse_bytes.catalog; patterns = c.in-Ok-patterns_of.patterns }))
-    means.0 (c.one_meaning.ensures.alike c.as_slice.result.now plain_options means.0 (messages_of c.in-Ok-parse_bytes.catalog.entries) means.1 means.2)
+    means.0 means.2 (c.one_meaning.ensures.alike c.as_slice.result.now plain_options means.0 (messages_of c.in-Ok-parse_bytes.catalog.entries) means.1 means.2)
     (bytes_of_text c.as_str.result.now c.args.text.now.tag c.as_str.utf8 c.as_str.ensures) c.as_slice.ensures
     c.in-Ok.ensures.ok means.1 c.in-Ok-patterns_of.ensures.ok
