@@ -6,9 +6,10 @@ use Rattle.std.specs.Int.{w32, from_le_bytes, from_be_bytes}
 use Rattle.std.specs.Option.{unwrap_or}
 use Rattle.std.specs.List.{list_any, position_or_len}
 use Rattle.std.specs.Prelude.{◌==◌}
-use Rattle.std.proofs.lemmas.Bool.{cases_lt, lt-ltb, le-ltb, ne_eqb}
+use Rattle.std.proofs.lemmas.Bool.{cases_lt, lt-ltb, le-ltb, ne_eqb, false_from_ne_true}
 use Rattle.std.proofs.lemmas.List.Folds.{length-prefix_len}
-use Rattle.std.proofs.lemmas.List.Sums.{prefix_len-le-length}
+use Rattle.std.proofs.lemmas.List.Sums.{position_or_len_is, prefix_len-le-length}
+use Rattle.memchr.specs.Find.{IsFirst, Passes}
 use Rattle.std.proofs.lemmas.List.{get_or-take, get_or-drop}
 use Rattle.writeable_core.specs.FirstFailure.{Condition, first_failure}
 use Rattle.writeable_core.specs.FirstFailureLaws.{failed_first, passed_first, head_passes}
@@ -164,18 +165,19 @@ ends-place (c ∷ cs) = by_test (c == 4) (ends-place cs) where
       (position_or_len (λ byte. byte == 4) cs + 1) (length cs) (λ e. omega (arith, e))
       (λ e. omega (arith, e)) ∙ rest
 
--- the place of the first byte of a kind, as `position` and `unwrap_or` give it
-pub first_place : (p : ℕ → Bool) (xs : List ℕ) (r : Option ℕ) (n : ℕ)
-    → r ≡ cond (ltb (position_or_len p xs) (length xs)) (Some (position_or_len p xs)) None
-    → n ≡ length xs → unwrap_or r n ≡ position_or_len p xs
-first_place p xs r n e f =
-    by_cases (position_or_len p xs) (length xs) r n e f
-    (prefix_len-le-length (λ x. not (p x)) xs) where
-      by_cases : (k m : ℕ) (r : Option ℕ) (n : ℕ) → r ≡ cond (ltb k m) (Some k) None → n ≡ m → k ≤ m
-          → unwrap_or r n ≡ k
-      by_cases k m r n e f short =
-          elim (cases_lt k m) [
-            | inl lt ↦ rw (e, lt-ltb k m lt) refl
-            | inr le ↦ rw (e, le-ltb k m le)
-                (omega arith)
-          ]
+-- ---- the first byte of a kind
+
+module _ (p : ℕ → Bool) (text : List ℕ) where
+  -- its place, or the length where there is none, as `memchr` and `unwrap_or` give it
+  pub first_place : (r : Option ℕ) → IsFirst (Passes p text) 0 (length text) r
+      → unwrap_or r (length text) ≡ position_or_len p text
+  first_place None none =
+      sym (position_or_len_is p text (length text) 0 (omega arith)
+      (λ k lt. false_from_ne_true _ (none k (omega arith) lt)) (λ lt. absurd (omega arith)))
+  first_place (Some k) found =
+      sym (position_or_len_is p text k 0 (omega (arith, found.0.high))
+      (λ i lt. false_from_ne_true _ (found.0.before i (omega arith) lt)) (λ lt. found.1))
+
+  -- it stands within the text
+  pub place_inside : (n : ℕ) → n ≡ position_or_len p text → n ≤ length text
+  place_inside n is = rw is (prefix_len-le-length (λ x. not (p x)) text)

@@ -3,8 +3,11 @@
 ghost use Rattle.std.specs.Prelude.{◌≡◌, ◌≤◌, length};
 ghost use Rattle.std.specs.Option.{option_map};
 ghost use Rattle.std.specs.List.{slice_get, position_or_len};
-ghost use Rattle.gettext.specs.Layout.{pieces_of, is_nul};
+ghost use Rattle.memchr.specs.Find.{is_byte};
+ghost use Rattle.gettext.specs.Layout.{pieces_of};
 ghost use Rattle.gettext.specs.Table.{IsPieceSpan, LiesIn, bytes_at};
+
+use memchr::memchr;
 
 /// A range of bytes in a buffer.
 #[derive(Clone, Copy)]
@@ -49,21 +52,19 @@ pub fn nth_span(text: &[u8], number: usize) -> Option<(usize, usize)>
 {
     let mut start = 0;
     for _ in 0..number {
-        let len = nul_place(&text[start..]);
+        let len = place_of(0, &text[start..]);
         if start + len == text.len() {
             return None;
         }
         start += len + 1;
     }
-    Some((start, start + nul_place(&text[start..])))
+    Some((start, start + place_of(0, &text[start..])))
 }
 
-/// The place of the first NUL, or the length where there is none.
-pub fn nul_place(text: &[u8]) -> usize
-    ensures value { result ≡ position_or_len is_nul text.now }
+/// The place of the first such byte, or the length of the text where there is none.
+pub fn place_of(byte: u8, text: &[u8]) -> usize
+    ensures value { result ≡ position_or_len (is_byte byte) text.now }
     ensures inside { result ≤ length text.now }
 {
-    text.iter()
-        .position(|byte| *byte == 0)
-        .unwrap_or(text.len())
+    memchr(byte, text).unwrap_or(text.len())
 }

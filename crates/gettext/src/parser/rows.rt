@@ -1,7 +1,7 @@
 //! The rows of an MO file: where the texts of each message stand.
 
-ghost use Rattle.std.specs.Prelude.{◌≡◌, ◌==◌, ◌-◌, ◌≤◌, ◌<◌, length, IfOk};
-ghost use Rattle.std.specs.List.{list_all, position_or_len};
+ghost use Rattle.std.specs.Prelude.{◌≡◌, ◌-◌, ◌≤◌, ◌<◌, length, IfOk};
+ghost use Rattle.std.specs.List.{list_all};
 ghost use Rattle.writeable_core.specs.FirstFailure.{first_failure};
 ghost use Rattle.gettext.specs.Encoding.{is_valid};
 ghost use Rattle.gettext.specs.Messages.{has_id};
@@ -14,7 +14,7 @@ ghost use Rattle.gettext.specs.Reader.{IsReadRow, Pushed};
 use super::layout::{Header, text_at};
 use crate::encoding::Encoding;
 use crate::error::Error;
-use crate::spans::{Row, Span, nul_place};
+use crate::spans::{Row, Span, place_of};
 
 /// How long the key of an original is: what stands before its first NUL.
 #[tactic(auto, using(crate::proofs::Conditions::by_parts))]
@@ -23,7 +23,7 @@ fn key_len(original: &[u8], encoding: Encoding, index: u32) -> Result<usize, Err
         result (first_failure (head_conditions encoding index original.now)) }
     ensures inside { IfOk result (λ len. len < length original.now) }
 {
-    let len = nul_place(original);
+    let len = place_of(0, original);
     if len == original.len() {
         return Err(Error::Eof);
     }
@@ -41,15 +41,7 @@ fn key_len(original: &[u8], encoding: Encoding, index: u32) -> Result<usize, Err
 pub fn has_id(key: &[u8]) -> bool
     ensures { result ≡ has_id key.now }
 {
-    !key.is_empty() && separator_place(key) + 1 != key.len()
-}
-
-/// The place of the first byte that ends a context, or the length where there is none.
-fn separator_place(key: &[u8]) -> usize
-    ensures value { result ≡ position_or_len (λ byte. byte == 4) key.now }
-    ensures inside { result ≤ length key.now }
-{
-    key.iter().position(|byte| *byte == 4).unwrap_or(key.len())
+    !key.is_empty() && place_of(4, key) + 1 != key.len()
 }
 
 /// Where the key of a row stands: the context, byte 4 and the id, or the id alone.

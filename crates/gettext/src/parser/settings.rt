@@ -17,7 +17,7 @@ use crate::encoding::Encoding;
 use crate::error::Error;
 use crate::metadata::{MetadataMap, parse_metadata};
 use crate::plurals::{Ast, PluralRule};
-use crate::spans::{Row, bytes_of, nul_place};
+use crate::spans::{Row, bytes_of, place_of};
 use std::alloc::Global;
 use std::str;
 
@@ -63,7 +63,7 @@ impl Settings {
             return Ok(Settings::plain(options));
         }
         let forms = bytes_of(bytes, row.forms);
-        let form = &forms[..nul_place(forms)];
+        let form = &forms[..place_of(0, forms)];
         match options.first_encoding() {
             Encoding::Utf8 => Settings::of_text(
                 alloc,

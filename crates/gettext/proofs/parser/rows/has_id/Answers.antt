@@ -7,6 +7,6 @@ returns-then-not-is_empty c =
     rw (
       sym c.is_empty.ensures
           ∙ c.if-not-is_empty.true,
-      c.separator_place.ensures.value,
+      c.place_of.ensures.value,
       ends-place _,
     ) refl

@@ -12,15 +12,15 @@ returns-then-has_id c =
 pub from_utf8_unchecked-requires : goal.from_utf8_unchecked-requires
 from_utf8_unchecked-requires c =
     let u = header_is_utf8 c.args.bytes.now c.args.options c.args.row c.requires
-    c.bytes_of-forms.result.now c.nul_place.result c.bytes_of-forms.ensures
-    c.nul_place.ensures.value c.type_inv.bytes in
+    c.bytes_of-forms.result.now c.place_of.result c.bytes_of-forms.ensures
+    c.place_of.ensures.value c.type_inv.bytes in
     rw (sym c.first_encoding.ensures, c.in-Utf8.is) at u
 
 pub from_utf8_unchecked-requires-in_default : goal.from_utf8_unchecked-requires-in_default
 from_utf8_unchecked-requires-in_default c =
     let u = header_is_utf8 c.args.bytes.now c.args.options c.args.row c.requires
-    c.bytes_of-forms.result.now c.nul_place.result c.bytes_of-forms.ensures
-    c.nul_place.ensures.value c.type_inv.bytes in
+    c.bytes_of-forms.result.now c.place_of.result c.bytes_of-forms.ensures
+    c.place_of.ensures.value c.type_inv.bytes in
     rw (
       c.deref.ensures.value,
       c.in_ok-push_decoded-in_default.ensures,
@@ -31,8 +31,8 @@ from_utf8_unchecked-requires-in_default c =
 pub returns-in-Utf8 : goal.returns-in-Utf8
 returns-in-Utf8 c =
     let fields = header_fields_are c.args.bytes.now c.args.options c.args.row c.requires
-    c.bytes_of-forms.result.now c.nul_place.result c.bytes_of-forms.ensures
-    c.nul_place.ensures.value
+    c.bytes_of-forms.result.now c.place_of.result c.bytes_of-forms.ensures
+    c.place_of.ensures.value
     (rw (← c.bytes_of.ensures) (sym c.has_id.ensures ∙ c.if-has_id.false)) in
     let plain = rw (← c.in-Utf8.ensures, ← c.from_utf8_unchecked.ensures) at fields in
     rw plain c.of_text.ensures
@@ -40,8 +40,8 @@ returns-in-Utf8 c =
 pub returns-in_ok-push_decoded-in_default : goal.returns-in_ok-push_decoded-in_default
 returns-in_ok-push_decoded-in_default c =
     let fields = header_fields_are c.args.bytes.now c.args.options c.args.row c.requires
-    c.bytes_of-forms.result.now c.nul_place.result c.bytes_of-forms.ensures
-    c.nul_place.ensures.value
+    c.bytes_of-forms.result.now c.place_of.result c.bytes_of-forms.ensures
+    c.place_of.ensures.value
     (rw (← c.bytes_of.ensures) (sym c.has_id.ensures ∙ c.if-has_id.false)) in
     let h = rw (
       c.from_utf8_unchecked-in_default.ensures,
