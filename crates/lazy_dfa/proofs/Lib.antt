@@ -14,3 +14,4 @@ pub mod Advancing
 pub mod Pushing
 pub mod Matching
 pub mod States
+pub mod FewStates

@@ -118,8 +118,9 @@ MakesRow m firsts from old (Ok (Some row)) new =
 MakesRow m firsts from old (Ok None) new = IsTooLarge m
 MakesRow m firsts from old (Err e) new = Unit {0}
 
--- the table steps as the automaton does
+-- the table steps as the automaton does, and its sets are few
 pub record IsTable (m : Machine) (t : Table) : Type 0 where
+  pub few : length t.sets.items ≤ 255
   pub classes : IsClasses m.ranges t.firsts.items
   pub all : length t.rows.items ≡ length t.sets.items + 1
   pub rows : AreRows m t.firsts.items t.sets.items t.rows.items

@@ -1,6 +1,6 @@
 //! Conditions: reading a pattern, and what holds of a text.
 
-ghost use Rattle.std.specs.Prelude.{◌≡◌, ◌↔◌, ◌≤◌, false, length, take, IfErr, IfOk, IsTrue};
+ghost use Rattle.std.specs.Prelude.{◌≡◌, ◌↔◌, ◌≤◌, false, true, length, take, IfErr, IfOk, IsTrue};
 ghost use Rattle.std.specs.Str.{chars};
 
 use crate::automaton::{Automaton, MOST};
@@ -77,10 +77,13 @@ impl Condition {
 
     /// Makes a table of the states that texts reach, by which a step is a look-up. False where they
     /// are more than 256: then stepping goes on without one. No answer of the condition changes.
+    #[tactic(auto, using(crate::proofs::FewStates::few_with, crate::proofs::FewStates::few_made))]
     pub fn determinise(&mut self, alloc: Global) -> Result<bool, AllocError>
         ensures kept { self.new ≡ self.old }
         ensures many { IfOk result (λ used. used ≡ false →
             (e : Expression) → IsFor self.old e → HasManyStates e) }
+        ensures few { IfOk result (λ used. used ≡ true →
+            (e : Expression) → IsFor self.old e → HasManyStates e → ⊥) }
     {
         if self.matcher.table.is_some() {
             return Ok(true);
