@@ -16,7 +16,7 @@ use Rattle.localise.specs.declared.bundle.Bundle.{Bundle}
 use Rattle.localise.specs.declared.error.RenderError.{RenderError}
 use Rattle.localise.specs.declared.error.RenderError.TheVariants as refusals
 use Rattle.localise.specs.Chosen.{Translation, form_for, numbered, translation_from}
-use Rattle.localise.specs.Kept.{AllKeep, AreAlike, AreRead, IsRead, Keeps}
+use Rattle.localise.specs.Kept.{AllKeep, AreAlike, AreKept, IsRead, Keeps}
 use Rattle.localise.proofs.Placing.{any_later}
 use Rattle.localise.specs.Meaning.{Meaning}
 use Rattle.localise_texts.specs.declared.bundle.BundleText.{BundleText}
@@ -85,8 +85,8 @@ keep-any P kept bs h any = keep_any_at P kept bs any.0 any.1 h any.2 any.3 any.4
 
 -- one more bundle is read, for a locale of none before it
 pub read-push : (T : Tables) (texts : List BundleText) (kept : List Meaning) (text : BundleText) (k : Meaning)
-    → AreRead T texts kept → IsRead T text k → All (λ (b : Meaning). b.locale ≢ k.locale) kept
-    → AreRead T (texts ++ text ∷ []) (kept ++ k ∷ [])
+    → AreKept T texts kept → IsRead T text k → All (λ (b : Meaning). b.locale ≢ k.locale) kept
+    → AreKept T (texts ++ text ∷ []) (kept ++ k ∷ [])
 read-push T texts kept text k all one fresh =
     let apart : All (λ (b : Meaning). b.locale ≢ one.meaning.locale) all.bundles =
     keep-all (λ l. l ≢ one.meaning.locale) kept all.bundles all.keep
@@ -125,14 +125,14 @@ alike kept bs h = λ q l. translation-alike 0 kept bs q l h
 
 -- as many bundles are read as there are texts before this one
 read_number : (T : Tables) (texts : List BundleText) (i : ℕ) (read : List Bundle) → i < length texts
-    → AreRead T (take i texts) (meanings_of read) → length read ≡ i
+    → AreKept T (take i texts) (meanings_of read) → length read ≡ i
 read_number T texts i read low are =
     sym (length-map read meaning_of) ∙ keep-length (meanings_of read) are.bundles are.keep
     ∙ mean-length T (take i texts) are.bundles are.are.mean ∙ length-take-le i texts (omega arith)
 
 -- a bundle that is faulty by itself is the first that is
 pub fault_of_read : (T : Tables) (texts : List BundleText) (i : ℕ) (read : List Bundle) (number : ℕ) (e : RenderError) (text : BundleText)
-    → slice_get texts i ≡ Some text → i < length texts → AreRead T (take i texts) (meanings_of read) → number ≡ length read
+    → slice_get texts i ≡ Some text → i < length texts → AreKept T (take i texts) (meanings_of read) → number ≡ length read
     → ((earlier : List Meaning) → IsFaultBehind T earlier number text e) → IsBundleFault T texts e
 fault_of_read T texts i read number e text there low are number_is fault = record {
   i = i;
@@ -145,7 +145,7 @@ fault_of_read T texts i read number e text there low are number_is fault = recor
 
 -- a bundle for the locale of an earlier one is the first that is faulty
 pub fault_of_locale : (T : Tables) (texts : List BundleText) (i : ℕ) (read : List Bundle) (kept : Meaning) (e : RenderError) (text : BundleText)
-    → slice_get texts i ≡ Some text → i < length texts → AreRead T (take i texts) (meanings_of read) → IsRead T text kept
+    → slice_get texts i ≡ Some text → i < length texts → AreKept T (take i texts) (meanings_of read) → IsRead T text kept
     → (e ≡ refusals.DuplicateLocale (length read)) × Any (λ (other : Meaning). other.locale ≡ kept.locale) (meanings_of read)
     → IsBundleFault T texts e
 fault_of_locale T texts i read kept e text there low are one fault =

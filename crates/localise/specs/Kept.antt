@@ -33,7 +33,7 @@ AllKeep [] (b ∷ bundles) = ⊥
 AllKeep (kept ∷ all) [] = ⊥
 
 -- what is kept of the texts of bundles is what they mean
-pub record AreRead (T : Tables) (texts : List BundleText) (kept : List Meaning) : Type 0 where
+pub record AreKept (T : Tables) (texts : List BundleText) (kept : List Meaning) : Type 0 where
   pub bundles : List Meaning
   pub are : AreBundles T texts bundles
   pub keep : AllKeep kept bundles

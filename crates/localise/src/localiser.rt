@@ -4,7 +4,7 @@ ghost use Rattle.std.specs.FinMap as map;
 ghost use Rattle.gettext.specs.Table.{messages_of};
 ghost use Rattle.localise.specs.Bundles.{IsBundleFault, IsRefusal};
 ghost use Rattle.localise.specs.Given.{IsFound, IsNotFound};
-ghost use Rattle.localise.specs.Kept.{AreRead, Localises};
+ghost use Rattle.localise.specs.Kept.{AreKept, Localises};
 ghost use Rattle.localise.specs.Read.{meanings_of};
 ghost use Rattle.localise.specs.Views.{meanings, root_of, tables_of};
 ghost use Rattle.wanted_locale.specs.Wanted.{IsTagCause, IsWantedOf};
@@ -51,7 +51,7 @@ impl<'a> Localiser<'a> {
             Localises tables.now bundles.now root.now (meanings localiser) (root_of localiser)) }
         ensures tables { IfOk result (λ localiser. tables_of localiser ≡ tables.now) }
         ensures kept { IfOk result (λ localiser.
-            AreRead tables.now bundles.now (meanings localiser)) }
+            AreKept tables.now bundles.now (meanings localiser)) }
         ensures count { IfOk result (λ localiser.
             length (meanings localiser) ≡ length bundles.now) }
         ensures err { IfErr result (λ e. e ≢ RenderError.NoMemory
@@ -108,7 +108,7 @@ impl<'a> Localiser<'a> {
 /// Reads bundles in their order, up to the first that is faulty.
 fn read_all(alloc: Global, tables: &Tables, texts: &[BundleText]) -> Result<Bundles, RenderError>
     ensures ok { IfOk result (λ read.
-        AreRead tables.now texts.now (meanings_of read.list.items)) }
+        AreKept tables.now texts.now (meanings_of read.list.items)) }
     ensures err { IfErr result (λ e. e ≢ RenderError.NoMemory
         → IsBundleFault tables.now texts.now e) }
 {

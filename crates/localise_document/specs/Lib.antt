@@ -11,3 +11,4 @@ pub mod Patterns
 pub mod Requests
 pub mod Shape
 pub mod Tables
+pub mod Words

@@ -1,15 +1,35 @@
+ghost use Rattle.std.specs.Prelude.{◌≡◌};
+ghost use Rattle.localise_document.specs.Words.{words_of};
+
 use crate::{Field, ShapePlace};
 use std::alloc::{AllocError, AllocFailed};
+use thiserror::Error;
 
 /// Why bytes give no document.
-#[derive(Clone, Copy, Debug, PartialEq, Eq)]
+#[derive(Clone, Copy, Debug, PartialEq, Eq, Error)]
 pub enum DocumentError {
     /// They are no JSON.
+    #[error("not JSON")]
     NotJson,
     /// The value that they are has another shape than a document: its first misshapen place.
+    #[error("wrong shape")]
     Shape(ShapePlace),
     /// Memory ran out.
+    #[error("out of memory")]
     NoMemory,
+}
+
+impl DocumentError {
+    /// A few words on the error, without its place.
+    pub fn text(&self) -> &'static str
+        ensures { result.now ≡ words_of self.now }
+    {
+        match self {
+            DocumentError::NotJson => "not JSON",
+            DocumentError::Shape(_) => "wrong shape",
+            DocumentError::NoMemory => "out of memory",
+        }
+    }
 }
 
 /// Why a reader gave nothing: what it reads is misshapen, or memory ran out.

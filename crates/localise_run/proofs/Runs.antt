@@ -1,7 +1,7 @@
 -- What a run gives, from its document's tables up to the bytes and the words.
-use Rattle.std.proofs.Common.{◌≡◌, ◌≢◌, ◌⊎◌, ℕ, ◌+◌, ◌≤◌, ◌<◌, List, [], ◌++◌, Option, Some, None, Ok, Err, Result, Bool, length, String, Global, refl, sym, subst, inl, inr, arith}
+use Rattle.std.proofs.Common.{◌≡◌, ◌≢◌, ◌⊎◌, ℕ, ◌+◌, ◌≤◌, ◌<◌, List, [], ◌++◌, Option, Some, None, Ok, Err, Result, Bool, length, String, Global, refl, sym, subst, inl, inr, arith, ◌∙◌}
 use Rattle.std.specs.Prelude.{IfSome, OnErr, OnOk, replicate}
-use Rattle.std.proofs.lemmas.List.{length-replicate}
+use Rattle.std.proofs.lemmas.List.{append-nil, length-replicate}
 use Rattle.icu_list.specs.Patterns.{Patterns}
 use Rattle.localise.specs.Bundles.{AreAccepted, IsRefusal}
 use Rattle.localise.specs.Meaning.{Meaning}
@@ -194,49 +194,68 @@ module _ {O : Type 0} (took : O → List ℕ → O → Type 0) (faults : O → �
         (r.gives.text, r.gives.says, record { taken = r.gives.taken; told = λ (h : List ℕ) is. took_held old new r.gives.text h r.gives.taken is }),
       )
 
+  -- and so behind a flush
+  pub headline_flushed : (held : O → Option (List ℕ))
+      → ((a b : O) (t h : List ℕ) → took a t b → held a ≡ Some h → held b ≡ Some (h ++ t))
+      → ((a b c : O) (s t : List ℕ) → took a s b → took b t c → took a (s ++ t) c)
+      → (takes_memory : O → Bool) (flushes : O → O → Type 0) (behind : O) (answer status : Status)
+      → status ≡ Done → Ran answer
+      → IsFlushed took faults takes_memory flushes new behind answer status
+      → (bytes : List ℕ) × AreRead left bytes
+      × ((lines : List ℕ) × Says command bytes Done lines × Appended took held old lines behind)
+  headline_flushed held took_held took_both takes_memory flushes behind answer status done ran
+      (flushed taken all same) =
+      let r : Ran Done = subst Ran (sym same ∙ done) ran in
+      let whole : took old r.gives.text behind =
+      subst (λ (t : List ℕ). took old t behind) (append-nil r.gives.text)
+      (took_both old new behind r.gives.text [] r.gives.taken taken) in (
+        r.bytes,
+        r.read,
+        (
+          r.gives.text,
+          r.gives.says,
+          record {
+            taken = whole;
+            told = λ (h : List ℕ) is. took_held old behind r.gives.text h whole is;
+          },
+        ),
+      )
+  headline_flushed held took_held took_both takes_memory flushes behind answer status done ran
+      (failed taken rose same) =
+      let never : WriteFault ≡ Done = sym same ∙ done in absurd cc
+  headline_flushed held took_held took_both takes_memory flushes behind answer status done ran
+      (no_memory taken takes same) =
+      let never : NoMemory ≡ Done = sym same ∙ done in absurd cc
+
   -- an answer that the bytes have is the answer, unless something failed
   abbrev IsTheirs : Status → Type 0
-  IsTheirs status = IfSome left (λ bytes. (answer : Status) (text : List ℕ) → Says command bytes answer text → (status ≡ answer) ⊎ IsFailure status)
+  IsTheirs status = (bytes : List ℕ) × AreRead left bytes
+      × ((answer : Status) (text : List ℕ) → Says command bytes answer text
+      → (status ≡ answer) ⊎ IsFailure status)
 
-  theirs : OneAnswer → (status : Status) (bytes text : List ℕ) → AreRead left bytes → Says command bytes status text
-      → IfSome left (λ t. (answer : Status) (other : List ℕ) → Says command t answer other → status ≡ answer)
-  theirs one status bytes text = by left
-    where
-      by : (l : Option (List ℕ)) → AreRead l bytes → Says command bytes status text
-          → IfSome l (λ t. (answer : Status) (other : List ℕ) → Says command t answer other → status ≡ answer)
-      by None read says = tt
-      by (Some t) read says = λ (answer : Status) (other : List ℕ) so.
-          (one command bytes status answer text other says (subst (λ (b : List ℕ). Says command b answer other) read so)).0
-
-  certainly : (status : Status) → IfSome left (λ t. (answer : Status) (other : List ℕ) → Says command t answer other → status ≡ answer) → IsTheirs status
-  certainly status = by left
-    where
-      by : (l : Option (List ℕ)) → IfSome l (λ t. (answer : Status) (other : List ℕ) → Says command t answer other → status ≡ answer)
-          → IfSome l (λ bytes. (answer : Status) (text : List ℕ) → Says command bytes answer text → (status ≡ answer) ⊎ IsFailure status)
-      by None h = tt
-      by (Some t) h = λ (answer : Status) (text : List ℕ) says. inl (h answer text says)
+  certainly : OneAnswer → (status : Status) (bytes text : List ℕ) → AreRead left bytes
+      → Says command bytes status text → IsTheirs status
+  certainly one status bytes text read says =
+      (bytes, read, λ answer other so. inl (one command bytes status answer text other says so).0)
 
   failing : (status : Status) → IsFailure status → IsTheirs status
-  failing status fails = by left
-    where
-      by : (l : Option (List ℕ)) → IfSome l (λ bytes. (answer : Status) (text : List ℕ) → Says command bytes answer text → (status ≡ answer) ⊎ IsFailure status)
-      by None = tt
-      by (Some t) = λ (answer : Status) (text : List ℕ) says. inr fails
+  failing status fails =
+      let some = some_read left in (some.0, some.1, λ answer text says. inr fails)
 
   pub exact : OneAnswer → (status : Status) → Ran status → IsTheirs status
-  exact one Done r = certainly Done (theirs one Done r.bytes r.gives.text r.read r.gives.says)
+  exact one Done r = certainly one Done r.bytes r.gives.text r.read r.gives.says
   exact one BadWords r = absurd r
-  exact one NotJson r = certainly NotJson (theirs one NotJson r.bytes [] r.read r.gives.0)
-  exact one (Shape place) r = certainly (Shape place) (theirs one (Shape place) r.bytes [] r.read r.gives.0)
-  exact one (Table cause) r = certainly (Table cause) (theirs one (Table cause) r.bytes [] r.read r.gives.0)
-  exact one (Bundle i cause) r = certainly (Bundle i cause) (theirs one (Bundle i cause) r.bytes [] r.read r.gives.0)
-  exact one (DuplicateLocale i) r = certainly (DuplicateLocale i) (theirs one (DuplicateLocale i) r.bytes [] r.read r.gives.0)
-  exact one (Root fault) r = certainly (Root fault) (theirs one (Root fault) r.bytes [] r.read r.gives.0)
-  exact one (OfRequest i cause) r = certainly (OfRequest i cause) (theirs one (OfRequest i cause) r.bytes r.gives.text r.read r.gives.says)
+  exact one NotJson r = certainly one NotJson r.bytes [] r.read r.gives.0
+  exact one (Shape place) r = certainly one (Shape place) r.bytes [] r.read r.gives.0
+  exact one (Table cause) r = certainly one (Table cause) r.bytes [] r.read r.gives.0
+  exact one (Bundle i cause) r = certainly one (Bundle i cause) r.bytes [] r.read r.gives.0
+  exact one (DuplicateLocale i) r = certainly one (DuplicateLocale i) r.bytes [] r.read r.gives.0
+  exact one (Root fault) r = certainly one (Root fault) r.bytes [] r.read r.gives.0
+  exact one (OfRequest i cause) r = certainly one (OfRequest i cause) r.bytes r.gives.text r.read r.gives.says
   exact one ReadFault r = failing ReadFault tt
   exact one WriteFault r = failing WriteFault tt
   exact one NoMemory r = failing NoMemory tt
-  exact one TooLong r = certainly TooLong (theirs one TooLong r.bytes [] r.read r.gives.0)
+  exact one TooLong r = certainly one TooLong r.bytes [] r.read r.gives.0
 
   -- of the failures only want of memory comes where no count rose
   unfailing : (status : Status) → Ran status → IsFailure status → (Rose before now → ⊥) → (Rose (faults old) (faults new) → ⊥) → status ≡ NoMemory
@@ -256,16 +275,17 @@ module _ {O : Type 0} (took : O → List ℕ → O → Type 0) (faults : O → �
 
   -- bytes that have the answer `Done` get it, or memory ran out
   pub complete : OneAnswer → (status : Status) → Ran status
-      → IfSome left (λ bytes. (lines : List ℕ) → Says command bytes Done lines
-      → (Rose before now → ⊥) → (Rose (faults old) (faults new) → ⊥) → (status ≡ Done) ⊎ (status ≡ NoMemory))
-  complete one status r = by left (exact one status r)
-    where
-      by : (l : Option (List ℕ)) → IfSome l (λ bytes. (answer : Status) (text : List ℕ) → Says command bytes answer text → (status ≡ answer) ⊎ IsFailure status)
-          → IfSome l (λ bytes. (lines : List ℕ) → Says command bytes Done lines
-          → (Rose before now → ⊥) → (Rose (faults old) (faults new) → ⊥) → (status ≡ Done) ⊎ (status ≡ NoMemory))
-      by None h = tt
-      by (Some t) h = λ (lines : List ℕ) says source out.
-          elim (h Done lines says) [ inl same ↦ inl same | inr fails ↦ inr (unfailing status r fails source out) ]
+      → (bytes : List ℕ) × AreRead left bytes × ((lines : List ℕ) → Says command bytes Done lines
+      → (Rose before now → ⊥) → (Rose (faults old) (faults new) → ⊥)
+      → (status ≡ Done) ⊎ (status ≡ NoMemory))
+  complete one status r = let theirs = exact one status r in (
+    theirs.0,
+    theirs.1,
+    λ lines says source out. elim (theirs.2 Done lines says) [
+      | inl same ↦ inl same
+      | inr fails ↦ inr (unfailing status r fails source out)
+    ],
+  )
 
 -- ---- what is told of it
 

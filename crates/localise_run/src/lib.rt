@@ -33,5 +33,7 @@ mod tags;
 mod walk;
 
 pub use command::Command;
-pub use localise_status::{Field, RequestCause, Section, ShapePlace, Status, TableCause};
+pub use localise_status::{
+    Field, RequestCause, Section, ShapePlace, Status, TableCause, write_fault_line,
+};
 pub use running::{run, run_and_flush};

@@ -1,6 +1,6 @@
 //! Runs, from words and a source to a status.
 
-ghost use Rattle.std.specs.Prelude.{◌≡◌, ◌≢◌, ◌≤◌, ◌↔◌, ◌⊎◌, ℕ, List, IfSome, length};
+ghost use Rattle.std.specs.Prelude.{◌≡◌, ◌≢◌, ◌≤◌, ◌↔◌, ◌⊎◌, ℕ, List, length};
 ghost use Rattle.localise.specs.Kept.{AreAlike};
 ghost use Rattle.localise.specs.Meaning.{Meaning};
 ghost use Rattle.localise.specs.Views.{meanings, root_of, tables_of};
@@ -57,12 +57,14 @@ pub fn run<S: Source, O: Sink, E: Sink>(
     ensures no_fault { result ≡ Status.TooLong → S.faults source.new ≡ S.faults source.old }
     ensures unread { result ≡ Status.BadWords → (source.new ≡ source.old) × (out.new ≡ out.old) }
 
-    // The answer that the bytes have comes, unless a source, an output or memory fails.
+    // The answer that the bytes read have comes, unless a source, an output or memory fails.
     ensures exact { (command : Command) → IsCommand words.now command
-        → IfSome (S.left source.old) (λ bytes. (answer : Status) (text : List ℕ)
-        → Says command bytes answer text → (result ≡ answer) ⊎ IsFailure result) }
+        → (bytes : List ℕ) × AreRead (S.left source.old) bytes
+        × ((answer : Status) (text : List ℕ) → Says command bytes answer text
+        → (result ≡ answer) ⊎ IsFailure result) }
     ensures complete { (command : Command) → IsCommand words.now command
-        → IfSome (S.left source.old) (λ bytes. (lines : List ℕ) → Says command bytes Status.Done lines
+        → (bytes : List ℕ) × AreRead (S.left source.old) bytes
+        × ((lines : List ℕ) → Says command bytes Status.Done lines
         → (Rose (S.faults source.old) (S.faults source.new) → ⊥)
         → (Rose (O.faults out.old) (O.faults out.new) → ⊥)
         → (result ≡ Status.Done) ⊎ (result ≡ Status.NoMemory)) }
@@ -87,6 +89,10 @@ pub fn run_and_flush<S: Source, O: FlushSink, E: Sink>(
     out: &mut O,
     err: &mut E,
 ) -> Status
+    ensures headline { result ≡ Status.Done → (command : Command) → IsCommand words.now command
+        → (bytes : List ℕ) × AreRead (S.left source.old) bytes
+        × ((lines : List ℕ) × Says command bytes Status.Done lines
+        × Appended O.Sink.took O.Sink.held out.old lines out.new) }
     ensures runs { (command : Command) → IsCommand words.now command
         → RunsAndFlushes O.Sink.took O.Sink.faults O.Sink.takes_memory O.flushes command
         (S.left source.old) (S.faults source.old) (S.faults source.new) out.old out.new result }

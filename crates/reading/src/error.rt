@@ -1,3 +1,6 @@
+ghost use Rattle.std.specs.Prelude.{◌≡◌};
+ghost use Rattle.reading.specs.Words.{words_of};
+
 use thiserror::Error;
 
 /// Why a source was not read to its end.
@@ -12,4 +15,17 @@ pub enum ReadError {
     /// Memory ran out.
     #[error("out of memory")]
     NoMemory,
+}
+
+impl ReadError {
+    /// A few words on the error.
+    pub fn text(&self) -> &'static str
+        ensures { result.now ≡ words_of self.now }
+    {
+        match self {
+            ReadError::Fault => "the source failed",
+            ReadError::TooLong => "the source has too many bytes",
+            ReadError::NoMemory => "out of memory",
+        }
+    }
 }

@@ -2,7 +2,7 @@ use Rattle.std.proofs.Common.{take, length, refl, sym, ap, ◌∙◌, subst, ◌
 use Rattle.std.proofs.lemmas.List.{take_more}
 use Rattle.std.proofs.lemmas.Option.{slice_get_read}
 use Rattle.std.proofs.lemmas.Result.{err_from_is_err_and}
-use Rattle.localise.specs.Kept.{AreRead}
+use Rattle.localise.specs.Kept.{AreKept}
 use Rattle.localise.specs.Read.{meaning_of, meanings_of}
 use Rattle.localise.proofs.Keeping.{read-push, fault_of_read, fault_of_locale}
 use Rattle.localise.proofs.localiser.read_all.Goals as goal
@@ -33,5 +33,5 @@ loop-text-preserved c =
     let more = take_more texts i c.text-item.result c.loop-text-test.true ∙ ap (λ x. take i texts ++ x ∷ []) (sym c.text-item.is) in
     let next = read-push T (take i texts) (meanings_of c.loop-text.read.list.items) c.text-item.result (meaning_of c.in_ok-bundle.bundle)
     c.loop-text.invariant c.in_ok-bundle.ensures.ok c.in_ok-read.ensures.apart in
-    subst (λ ts. AreRead T ts (meanings_of c.in_ok-read.read.list.items)) (sym more)
-    (subst (AreRead T (take i texts ++ c.text-item.result ∷ [])) (sym c.in_ok-read.ensures.ok) next)
+    subst (λ ts. AreKept T ts (meanings_of c.in_ok-read.read.list.items)) (sym more)
+    (subst (AreKept T (take i texts ++ c.text-item.result ∷ [])) (sym c.in_ok-read.ensures.ok) next)
