@@ -3,7 +3,8 @@
 //!
 //! A document is a text; an object with the member `most`, which is a source (see
 //! `calls::scripts`); or any other value, which is its own text. A run is answered by its status
-//! and exit code, and by what the output and the error sink took. A status is its name.
+//! and exit code, and by what the output and the error sink took. A status is its name, and its
+//! fault line a text.
 //!
 //! With `"each"` in place of the output's numbers the program runs with its first push failing,
 //! then with its second, and so on while the answer is `WriteFault`. Then the answer is that of the
@@ -22,11 +23,13 @@ use calls::scripts::Script;
 use icu_list::DataError;
 use language_tags::RegistryError;
 use localise::BundleCause;
-use localise_run::{Field, RequestCause, Section, ShapePlace, Status, TableCause, run};
+use localise_run::{
+    Field, RequestCause, Section, ShapePlace, Status, TableCause, run, write_fault_line,
+};
 use serde_json::Value;
 use std::alloc::{AllocError, Global};
 use wanted_locale::TagCause;
-use writeable::ScriptSink;
+use writeable::{ScriptSink, StringSink};
 
 /// A call of `localise_run`, by its path.
 pub fn answer<'a>(alloc: Global, call: &str, arguments: &'a [Value]) -> Answer<'a> {
@@ -59,6 +62,7 @@ pub fn answer<'a>(alloc: Global, call: &str, arguments: &'a [Value]) -> Answer<'
             run_into(alloc, &words, &source_of(alloc, given)?, &failing, &telling)
         }
         ("Status::code", [status]) => Ok(exit_code(status_of(status)?)),
+        ("write_fault_line", [status]) => fault_line(alloc, status_of(status)?),
         _ => Err(Wrong::Call),
     }
 }
@@ -190,6 +194,12 @@ fn are_alike(one: &Outcome, other: &Outcome) -> bool {
 
 fn exit_code(status: Status) -> Value {
     answers::number(u64::from(status.code()))
+}
+
+fn fault_line<'a>(alloc: Global, status: Status) -> Answer<'a> {
+    let mut line = StringSink::new(alloc);
+    write_fault_line(&status, &mut line).map_err(|_| AllocError)?;
+    Ok(Value::String(line.into_string()))
 }
 
 /// A status of each name. Those that carry something carry the first of its kind.
