@@ -1,5 +1,5 @@
 -- What is counted of made requests, and the three lines of it.
-use Rattle.std.proofs.Common.{◌≡◌, ◌≢◌, ℕ, ◌-◌, ◌^◌, min, List, [], Some, length, take, refl, sym, ap, ◌∙◌, subst, inl, inr, arith}
+use Rattle.std.proofs.Common.{◌≡◌, ◌≢◌, ℕ, ◌-◌, ◌^◌, min, List, [], Some, length, take, refl, sym, ap, ◌∙◌, subst, Bool, true, false, arith}
 use Rattle.std.specs.Prelude.{slice_get}
 use Rattle.std.proofs.Math.Seq.{take-length}
 use Rattle.icu_list.specs.Patterns.{Patterns}
@@ -10,7 +10,7 @@ use Rattle.localise_run.specs.Generating.{AreCounted, AreGenerated, AreNumbers, 
 use Rattle.localise_run.specs.Rendering.{IsLine, IsLineFault, in_tag}
 use Rattle.localise_run.specs.Requests.{AreLines, up_to}
 use Rattle.localise_run.specs.Requests.{all as all_lines}
-use Rattle.localise_run.specs.Run.{Gives, written}
+use Rattle.localise_run.specs.Run.{Gives, in_output, untouched, written}
 use Rattle.localise_run.specs.Wanting.{HasTagCause}
 use Rattle.localise_run.specs.Writing.{FailsLine, GetsNone}
 use Rattle.localise_status.specs.declared.status.RequestCause.{RequestCause}
@@ -48,11 +48,11 @@ module _ (T : Tables) (bundles : List Meaning) (root : Patterns) (qs : List Requ
 
   -- its line fails, which the counting sink never does
   pub uncounted_line : (i now new : ℕ) (q : Request) (status : Status) → CountsTo i now → slice_get qs i ≡ Some q
-      → FailsLine Counts (IsLine T bundles root) (IsLineFault T bundles root) (written (λ (n : ℕ). 0) now new) i q status
+      → FailsLine Counts (IsLine T bundles root) (IsLineFault T bundles root) (written (λ (n : ℕ). 0) (λ (n : ℕ). false) now new) i q status
       → AreUncounted T bundles root qs status
   uncounted_line i now new q Done w is f = none f
     where
-      none : GetsNone Counts (IsLine T bundles root) (IsLineFault T bundles root) (written (λ (n : ℕ). 0) now new) i q Done → AreUncounted T bundles root qs Done
+      none : GetsNone Counts (IsLine T bundles root) (IsLineFault T bundles root) (written (λ (n : ℕ). 0) (λ (n : ℕ). false) now new) i q Done → AreUncounted T bundles root qs Done
       none g = let same = g.status_is in cc
   uncounted_line i now new q (OfRequest j c) w is f =
       subst (AreUncounted T bundles root qs) (sym f.status_is) (uncounted_at i now q f.cause w is f.fault)
@@ -93,9 +93,9 @@ module _ (T : Tables) (bundles : List Meaning) (root : Patterns) (qs : List Requ
 
   -- ---- the three lines
 
-  module _ {O : Type 0} (took : O → List ℕ → O → Type 0) (faults : O → ℕ) (old : O) where
+  module _ {O : Type 0} (took : O → List ℕ → O → Type 0) (faults : O → ℕ) (takes_memory : O → Bool) (old : O) where
     abbrev GivesNumbers : O → Status → Type 0
-    GivesNumbers new status = Gives took (AreGenerated T bundles root qs) (AreNumbers T bundles root qs) (written faults old new) status
+    GivesNumbers new status = Gives took (AreGenerated T bundles root qs) (AreNumbers T bundles root qs) (written faults takes_memory old new) status
 
     -- the numbers were written
     pub wrote_numbers : (new : O) (text : List ℕ) → AreNumbers T bundles root qs text → took old text new → GivesNumbers new Done
@@ -103,13 +103,15 @@ module _ (T : Tables) (bundles : List Meaning) (root : Patterns) (qs : List Requ
 
     -- the sink failed in them
     pub numbers_failing : (new : O) (text : List ℕ) (error : SinkError) → AreNumbers T bundles root qs text → TookPrefix took old text new
-        → (error ≡ sink.Fault → Rose (faults old) (faults new)) → GivesNumbers new (status_of_sink error)
-    numbers_failing new text sink.Fault are front rose = (rose refl, record { text = text; begins = are; front = front })
-    numbers_failing new text sink.NoMemory are front rose = inr (record { text = text; begins = are; front = front })
+        → (error ≡ sink.Fault → Rose (faults old) (faults new)) → (error ≡ sink.NoMemory → takes_memory old ≡ true)
+        → GivesNumbers new (status_of_sink error)
+    numbers_failing new text sink.Fault are front rose takes = (rose refl, record { text = text; begins = are; front = front })
+    numbers_failing new text sink.NoMemory are front rose takes =
+        in_output (takes refl) (record { text = text; begins = are; front = front })
 
     -- there are none, and nothing is written
     pub no_numbers : (status : Status) → took old [] old → AreUncounted T bundles root qs status → GivesNumbers old status
-    no_numbers status nothing (no_memory is) = subst (GivesNumbers old) (sym is) (inl refl)
+    no_numbers status nothing (no_memory is) = subst (GivesNumbers old) (sym is) (untouched refl)
     no_numbers status nothing (stopped (all_lines h is) not) = absurd (not is)
     no_numbers status nothing (stopped (up_to {i = i} {cause = c} h is) not) =
         subst (GivesNumbers old) (sym is)

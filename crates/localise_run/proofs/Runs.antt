@@ -16,7 +16,7 @@ use Rattle.localise_run.specs.Answers.{Begins, IsAnswer, IsBegun, IsMade, IsRefu
 use Rattle.localise_run.specs.Causes.{status_of_document, status_of_reading, status_of_sink}
 use Rattle.localise_run.specs.Commands.{IsCommand}
 use Rattle.localise_run.specs.Laws.{OneAnswer}
-use Rattle.localise_run.specs.Run.{AreRead, Appended, Gives, GivesRead, IsFlushed, Runs, Written, failed, flushed, no_memory, written}
+use Rattle.localise_run.specs.Run.{AreRead, Appended, Gives, GivesRead, IsFlushed, Runs, Written, failed, flushed, no_memory, untouched, written}
 use Rattle.localise_run.specs.Tables.{HasTables, IsTableStatus, faulty}
 use Rattle.localise_run.specs.Tables.{no_memory as no_table_memory}
 use Rattle.localise_run.specs.declared.command.Command.{Command}
@@ -35,15 +35,15 @@ use Rattle.writeable_core.specs.declared.sink.SinkError.TheVariants as sink
 
 -- ---- over a document
 
-module _ {O : Type 0} (took : O → List ℕ → O → Type 0) (faults : O → ℕ) (command : Command) (d : Contents) where
+module _ {O : Type 0} (took : O → List ℕ → O → Type 0) (faults : O → ℕ) (takes_memory : O → Bool) (command : Command) (d : Contents) where
   abbrev GivesAnswer : O → O → Status → Type 0
-  GivesAnswer old new status = Gives took (IsAnswer command d) (IsBegun command d) (written faults old new) status
+  GivesAnswer old new status = Gives took (IsAnswer command d) (IsBegun command d) (written faults takes_memory old new) status
 
   -- a row of its tables is faulty, or memory ran out
   pub tables_fail : (o : O) (status : Status) → IsTableStatus d status → GivesAnswer o o status
   tables_fail o status (faulty {cause = c} fault is) =
       subst (GivesAnswer o o) (sym is) (in_tables fault refl refl, refl)
-  tables_fail o status (no_table_memory is) = subst (GivesAnswer o o) (sym is) (inl refl)
+  tables_fail o status (no_table_memory is) = subst (GivesAnswer o o) (sym is) (untouched refl)
 
   -- bundles or a root are refused, or memory ran out
   refusal_fails : (o : O) (T : Tables) (e : RenderError) → HasTables d T
@@ -51,10 +51,10 @@ module _ {O : Type 0} (took : O → List ℕ → O → Type 0) (faults : O → �
   refusal_fails o T (refusals.Bundle i cause) tables is = (in_bundles tables (is (λ same. cc)) refl refl, refl)
   refusal_fails o T (refusals.DuplicateLocale i) tables is = (in_bundles tables (is (λ same. cc)) refl refl, refl)
   refusal_fails o T (refusals.Root fault) tables is = (in_bundles tables (is (λ same. cc)) refl refl, refl)
-  refusal_fails o T (refusals.Tag cause) tables is = inl refl
-  refusal_fails o T refusals.ChainLoops tables is = inl refl
-  refusal_fails o T refusals.Sink tables is = inl refl
-  refusal_fails o T refusals.NoMemory tables is = inl refl
+  refusal_fails o T (refusals.Tag cause) tables is = untouched refl
+  refusal_fails o T refusals.ChainLoops tables is = untouched refl
+  refusal_fails o T refusals.Sink tables is = untouched refl
+  refusal_fails o T refusals.NoMemory tables is = untouched refl
 
   -- and so the document's answer is
   pub bundles_fail : (o : O) (T : Tables) (status : Status) → HasTables d T → IsRefusedBy T d.bundles d.root status → GivesAnswer o o status
@@ -64,33 +64,33 @@ module _ {O : Type 0} (took : O → List ℕ → O → Type 0) (faults : O → �
   -- what the command makes of its requests is its answer
   pub requests_give : (old new : O) (T : Tables) (bundles : List Meaning) (root : Patterns) (status : Status) → HasTables d T
       → AreAccepted T d.bundles d.root bundles root
-      → Gives took (IsMade command T bundles root d.requests) (Begins command T bundles root d.requests) (written faults old new) status
+      → Gives took (IsMade command T bundles root d.requests) (Begins command T bundles root d.requests) (written faults takes_memory old new) status
       → GivesAnswer old new status
   requests_give old new T bundles root status tables accepted g =
       gives_along took (IsMade command T bundles root d.requests) (IsAnswer command d) (Begins command T bundles root d.requests) (IsBegun command d)
-      (written faults old new)
+      (written faults takes_memory old new)
       (λ (s : Status) (text : List ℕ) made. in_requests tables accepted made)
       (λ (text : List ℕ) begins. record { T = T; tables = tables; bundles = bundles; root = root; accepted = accepted; begins = begins })
       status g
 
 -- ---- over bytes
 
-module _ {O : Type 0} (took : O → List ℕ → O → Type 0) (faults : O → ℕ) (command : Command) (bytes : List ℕ) where
+module _ {O : Type 0} (took : O → List ℕ → O → Type 0) (faults : O → ℕ) (takes_memory : O → Bool) (command : Command) (bytes : List ℕ) where
   abbrev GivesSaid : O → O → Status → Type 0
-  GivesSaid old new status = Gives took (Says command bytes) (SaysFirst command bytes) (written faults old new) status
+  GivesSaid old new status = Gives took (Says command bytes) (SaysFirst command bytes) (written faults takes_memory old new) status
 
   -- they are no document, or memory ran out
   pub document_fails : (o : O) (e : DocumentError) → length bytes ≤ most_bytes → (e ≢ documents.NoMemory → IsDocumentFault bytes e)
       → GivesSaid o o (status_of_document e)
   document_fails o documents.NotJson within is = (not_json within (is (λ same. cc)) refl refl, refl)
   document_fails o (documents.Shape place) within is = (misshapen within (is (λ same. cc)) refl refl, refl)
-  document_fails o documents.NoMemory within is = inl refl
+  document_fails o documents.NoMemory within is = untouched refl
 
   -- the answer of the document is theirs
   pub document_gives : (old new : O) (d : Contents) (status : Status) → length bytes ≤ most_bytes → IsDocument bytes d
-      → Gives took (IsAnswer command d) (IsBegun command d) (written faults old new) status → GivesSaid old new status
+      → Gives took (IsAnswer command d) (IsBegun command d) (written faults takes_memory old new) status → GivesSaid old new status
   document_gives old new d status within is g =
-      gives_along took (IsAnswer command d) (Says command bytes) (IsBegun command d) (SaysFirst command bytes) (written faults old new)
+      gives_along took (IsAnswer command d) (Says command bytes) (IsBegun command d) (SaysFirst command bytes) (written faults takes_memory old new)
       (λ (s : Status) (text : List ℕ) answer. document within is answer)
       (λ (text : List ℕ) begun. record { within = within; d = d; document = is; begun = begun })
       status g
@@ -102,18 +102,18 @@ told : (left : Option (List ℕ)) (bytes : List ℕ) → IfSome left (λ t. byte
 told None bytes h = tt
 told (Some t) bytes h = sym h
 
-module _ {O : Type 0} (took : O → List ℕ → O → Type 0) (faults : O → ℕ) (command : Command) (left : Option (List ℕ)) (before now : ℕ) where
+module _ {O : Type 0} (took : O → List ℕ → O → Type 0) (faults : O → ℕ) (takes_memory : O → Bool) (command : Command) (left : Option (List ℕ)) (before now : ℕ) where
   abbrev RunsTo : O → O → Status → Type 0
-  RunsTo old new status = Runs took command left before now (written faults old new) (class_of status) status
+  RunsTo old new status = Runs took command left before now (written faults takes_memory old new) (class_of status) status
 
   given : (old new : O) (bytes : List ℕ) (status : Status) → IfSome left (λ t. bytes ≡ t)
-      → Gives took (Says command bytes) (SaysFirst command bytes) (written faults old new) status
-      → GivesRead took command left (written faults old new) status
+      → Gives took (Says command bytes) (SaysFirst command bytes) (written faults takes_memory old new) status
+      → GivesRead took command left (written faults takes_memory old new) status
   given old new bytes status all g = record { bytes = bytes; read = told left bytes all; gives = g }
 
   -- all bytes were read
   pub bytes_run : (old new : O) (bytes : List ℕ) (status : Status) → IfSome left (λ t. bytes ≡ t)
-      → Gives took (Says command bytes) (SaysFirst command bytes) (written faults old new) status → RunsTo old new status
+      → Gives took (Says command bytes) (SaysFirst command bytes) (written faults takes_memory old new) status → RunsTo old new status
   bytes_run old new bytes Done all g = given old new bytes Done all g
   bytes_run old new bytes BadWords all g = absurd g
   bytes_run old new bytes NotJson all g = given old new bytes NotJson all g
@@ -144,17 +144,17 @@ some_long : (most : ℕ) (left : Option (List ℕ)) → IfSome left (λ t. most 
 some_long most None h = (replicate (most + 1) 0, tt, omega (arith, length-replicate {A = ℕ} (most + 1) 0))
 some_long most (Some t) h = (t, refl, h)
 
-module _ {O : Type 0} (took : O → List ℕ → O → Type 0) (faults : O → ℕ) (command : Command) (left : Option (List ℕ)) (before now : ℕ) where
+module _ {O : Type 0} (took : O → List ℕ → O → Type 0) (faults : O → ℕ) (takes_memory : O → Bool) (command : Command) (left : Option (List ℕ)) (before now : ℕ) where
   -- reading failed
   pub reading_runs : (o : O) (e : ReadError) → IsReadError most_bytes before now left e
-      → RunsTo took faults command left before now o o (status_of_reading e)
+      → RunsTo took faults takes_memory command left before now o o (status_of_reading e)
   reading_runs o unread.Fault is = (is, refl)
   reading_runs o unread.TooLong is =
       let long = some_long most_bytes left is in
       record { bytes = long.0; read = long.1; gives = (too_long long.2 refl refl, refl) }
   reading_runs o unread.NoMemory is =
       let some = some_read left in
-      record { bytes = some.0; read = some.1; gives = inl refl }
+      record { bytes = some.0; read = some.1; gives = untouched refl }
 
 -- ---- over words
 
@@ -179,9 +179,9 @@ one_command words = by
 
 -- ---- what a run's answer says
 
-module _ {O : Type 0} (took : O → List ℕ → O → Type 0) (faults : O → ℕ) (command : Command) (left : Option (List ℕ)) (before now : ℕ) (old new : O) where
+module _ {O : Type 0} (took : O → List ℕ → O → Type 0) (faults : O → ℕ) (takes_memory : O → Bool) (command : Command) (left : Option (List ℕ)) (before now : ℕ) (old new : O) where
   abbrev Ran : Status → Type 0
-  Ran status = RunsTo took faults command left before now old new status
+  Ran status = RunsTo took faults takes_memory command left before now old new status
 
   -- `Done`: the bytes are answered so, and the lines were appended
   pub headline : (held : O → Option (List ℕ)) → ((a b : O) (t h : List ℕ) → took a t b → held a ≡ Some h → held b ≡ Some (h ++ t))
@@ -198,12 +198,12 @@ module _ {O : Type 0} (took : O → List ℕ → O → Type 0) (faults : O → �
   pub headline_flushed : (held : O → Option (List ℕ))
       → ((a b : O) (t h : List ℕ) → took a t b → held a ≡ Some h → held b ≡ Some (h ++ t))
       → ((a b c : O) (s t : List ℕ) → took a s b → took b t c → took a (s ++ t) c)
-      → (takes_memory : O → Bool) (flushes : O → O → Type 0) (behind : O) (answer status : Status)
+      → (flushes : O → O → Type 0) (behind : O) (answer status : Status)
       → status ≡ Done → Ran answer
       → IsFlushed took faults takes_memory flushes new behind answer status
       → (bytes : List ℕ) × AreRead left bytes
       × ((lines : List ℕ) × Says command bytes Done lines × Appended took held old lines behind)
-  headline_flushed held took_held took_both takes_memory flushes behind answer status done ran
+  headline_flushed held took_held took_both flushes behind answer status done ran
       (flushed taken all same) =
       let r : Ran Done = subst Ran (sym same ∙ done) ran in
       let whole : took old r.gives.text behind =
@@ -220,10 +220,10 @@ module _ {O : Type 0} (took : O → List ℕ → O → Type 0) (faults : O → �
           },
         ),
       )
-  headline_flushed held took_held took_both takes_memory flushes behind answer status done ran
+  headline_flushed held took_held took_both flushes behind answer status done ran
       (failed taken rose same) =
       let never : WriteFault ≡ Done = sym same ∙ done in absurd cc
-  headline_flushed held took_held took_both takes_memory flushes behind answer status done ran
+  headline_flushed held took_held took_both flushes behind answer status done ran
       (no_memory taken takes same) =
       let never : NoMemory ≡ Done = sym same ∙ done in absurd cc
 

@@ -1,10 +1,10 @@
 -- What was written of the lines of requests, up to the one at which a command stops.
-use Rattle.std.proofs.Common.{◌≡◌, ◌≢◌, ℕ, ◌+◌, ◌<◌, ◌≤◌, List, [], ◌++◌, Some, length, take, get_or, refl, sym, subst, inl, inr}
+use Rattle.std.proofs.Common.{◌≡◌, ◌≢◌, ℕ, ◌+◌, ◌<◌, ◌≤◌, List, [], ◌++◌, Some, length, take, get_or, refl, sym, subst, ◌∙◌, Bool, true, inl, inr}
 use Rattle.std.specs.Prelude.{slice_get}
 use Rattle.localise_run.proofs.Lines.{lines_more}
 use Rattle.localise_run.specs.Causes.{status_of_sink, status_of_tag}
 use Rattle.localise_run.specs.Requests.{AreAnswered, AreLines, BeginLines, all, up_to}
-use Rattle.localise_run.specs.Run.{Gives, TookFront, TookText, Written, written}
+use Rattle.localise_run.specs.Run.{Gives, TookFront, TookText, Written, behind_lines, in_output, untouched, written}
 use Rattle.localise_run.specs.Writing.{FailsLine, GetsNone, TookLineFront}
 use Rattle.localise_status.specs.declared.status.RequestCause.{RequestCause}
 use Rattle.localise_status.specs.declared.status.RequestCause.TheVariants.{Tag}
@@ -14,7 +14,7 @@ use Rattle.localise_texts.specs.declared.request.Request.{Request}
 use Rattle.wanted_locale.specs.declared.error.TagCause.{TagCause}
 use Rattle.wanted_locale.specs.declared.error.TagCause.TheVariants as wanted
 use Rattle.writeable_core.specs.Sink.{Rose, TookPrefix}
-use Rattle.writeable_core.specs.SinkLaws.{front_after, front_whole, rose_earlier}
+use Rattle.writeable_core.specs.SinkLaws.{front_after, rose_earlier}
 use Rattle.writeable_core.specs.declared.sink.SinkError.{SinkError}
 use Rattle.writeable_core.specs.declared.sink.SinkError.TheVariants as sink
 
@@ -24,15 +24,16 @@ pub record WroteTo {O : Type 0} (took : O → List ℕ → O → Type 0) (Line :
   pub lines : AreLines Line Fault (take i qs) text
   pub taken : took old text mid
 
-module _ {O : Type 0} (took : O → List ℕ → O → Type 0) (faults : O → ℕ)
+module _ {O : Type 0} (took : O → List ℕ → O → Type 0) (faults : O → ℕ) (takes_memory : O → Bool)
     (took_both : (a b c : O) (s t : List ℕ) → took a s b → took b t c → took a (s ++ t) c)
     (took_faults : (a b : O) (t : List ℕ) → took a t b → faults a ≤ faults b)
+    (took_memory : (a b : O) (t : List ℕ) → took a t b → takes_memory b ≡ takes_memory a)
     (Line : Request → List ℕ → Type 0) (Fault : Request → RequestCause → Type 0) (qs : List Request) where
   abbrev Wrote : O → ℕ → O → Type 0
   Wrote = WroteTo took Line Fault qs
 
   abbrev Given : O → O → Status → Type 0
-  Given old new status = Gives took (AreAnswered Line Fault qs) (BeginLines Line Fault qs) (written faults old new) status
+  Given old new status = Gives took (AreAnswered Line Fault qs) (BeginLines Line Fault qs) (written faults takes_memory old new) status
 
   -- nothing is written yet
   pub wrote_none : (old : O) → took old [] old → Wrote old 0 old
@@ -64,18 +65,10 @@ module _ {O : Type 0} (took : O → List ℕ → O → Type 0) (faults : O → �
     taken = w.taken;
   }
 
-  -- what was taken is a front of the lines
-  front_of : (old new : O) (i : ℕ) → Wrote old i new → TookFront took (AreAnswered Line Fault qs) (BeginLines Line Fault qs) (written faults old new)
-  front_of old new i w = record {
-    text = w.text;
-    begins = record { count = i; are = w.lines };
-    front = front_whole w.text w.taken;
-  }
-
-  -- and with a front of one line more
+  -- what was taken, and a front of one line more
   longer_front : (old mid new : O) (i : ℕ) (q : Request) → Wrote old i mid → i < length qs → q ≡ get_or qs i q
-      → TookLineFront took Line Fault (written faults mid new) i q
-      → TookFront took (AreAnswered Line Fault qs) (BeginLines Line Fault qs) (written faults old new)
+      → TookLineFront took Line Fault (written faults takes_memory mid new) i q
+      → TookFront took (AreAnswered Line Fault qs) (BeginLines Line Fault qs) (written faults takes_memory old new)
   longer_front old mid new i q w within is f = record {
     text = w.text ++ f.line;
     begins = record { count = i + 1; are = lines_more Line Fault qs i q w.text f.line within is w.lines f.is };
@@ -84,7 +77,8 @@ module _ {O : Type 0} (took : O → List ℕ → O → Type 0) (faults : O → �
 
   -- memory ran out before a request's line
   pub wrote_no_memory : (old new : O) (i : ℕ) → Wrote old i new → Given old new NoMemory
-  wrote_no_memory old new i w = inr (front_of old new i w)
+  wrote_no_memory old new i w =
+      behind_lines (record { text = w.text; begins = record { count = i; are = w.lines }; taken = w.taken })
 
   -- a request's tag asks for no locale, or memory ran out
   pub wrote_to_tag : (old new : O) (i : ℕ) (q : Request) (cause : TagCause) → Wrote old i new → slice_get qs i ≡ Some q
@@ -96,10 +90,10 @@ module _ {O : Type 0} (took : O → List ℕ → O → Type 0) (faults : O → �
 
   -- a request's line failed
   pub wrote_failing : (old mid new : O) (i : ℕ) (q : Request) (status : Status) → Wrote old i mid → i < length qs → q ≡ get_or qs i q
-      → slice_get qs i ≡ Some q → FailsLine took Line Fault (written faults mid new) i q status → Given old new status
+      → slice_get qs i ≡ Some q → FailsLine took Line Fault (written faults takes_memory mid new) i q status → Given old new status
   wrote_failing old mid new i q Done w within is at f = stopped f
     where
-      stopped : GetsNone took Line Fault (written faults mid new) i q Done → Given old new Done
+      stopped : GetsNone took Line Fault (written faults takes_memory mid new) i q Done → Given old new Done
       stopped g = let is = g.status_is in cc
   wrote_failing old mid new i q (OfRequest j c) w within is at f =
       subst (λ s. Given old new s) (sym f.status_is)
@@ -107,8 +101,9 @@ module _ {O : Type 0} (took : O → List ℕ → O → Type 0) (faults : O → �
   wrote_failing old mid new i q WriteFault w within is at f =
       (rose_earlier (faults old) (faults mid) (faults new) (took_faults old mid w.text w.taken) f.0, longer_front old mid new i q w within is f.1)
   wrote_failing old mid new i q NoMemory w within is at (inl same) =
-      inr (front_of old new i (subst (λ o. Wrote old i o) (sym same) w))
-  wrote_failing old mid new i q NoMemory w within is at (inr f) = inr (longer_front old mid new i q w within is f)
+      wrote_no_memory old new i (subst (λ o. Wrote old i o) (sym same) w)
+  wrote_failing old mid new i q NoMemory w within is at (inr f) =
+      in_output (sym (took_memory old mid w.text w.taken) ∙ f.0) (longer_front old mid new i q w within is f.1)
   wrote_failing old mid new i q BadWords w within is at f = absurd f
   wrote_failing old mid new i q NotJson w within is at f = absurd f
   wrote_failing old mid new i q (Shape place) w within is at f = absurd f
@@ -122,9 +117,10 @@ module _ {O : Type 0} (took : O → List ℕ → O → Type 0) (faults : O → �
 -- a sink failed in a request's line
 module _ {O : Type 0} (took : O → List ℕ → O → Type 0) (Line : Request → List ℕ → Type 0) (Fault : Request → RequestCause → Type 0) (x : Written O) (i : ℕ) (q : Request) where
   pub sink_fails : (line : List ℕ) (error : SinkError) → Line q line → TookPrefix took x.old line x.new
-      → (error ≡ sink.Fault → Rose x.faults_before x.faults_now) → FailsLine took Line Fault x i q (status_of_sink error)
-  sink_fails line sink.Fault is front rose = (rose refl, record { line = line; is = is; front = front })
-  sink_fails line sink.NoMemory is front rose = inr (record { line = line; is = is; front = front })
+      → (error ≡ sink.Fault → Rose x.faults_before x.faults_now) → (error ≡ sink.NoMemory → x.takes_memory ≡ true)
+      → FailsLine took Line Fault x i q (status_of_sink error)
+  sink_fails line sink.Fault is front rose takes = (rose refl, record { line = line; is = is; front = front })
+  sink_fails line sink.NoMemory is front rose takes = inr (takes refl, record { line = line; is = is; front = front })
 
 -- answers that are those of something larger are its answers
 pub gives_along : {O : Type 0} (took : O → List ℕ → O → Type 0) (Says More : Status → List ℕ → Type 0) (First Longer : List ℕ → Type 0) (x : Written O)
@@ -150,6 +146,8 @@ gives_along took Says More First Longer x says first = by
     by (OfRequest i cause) g = text_along (OfRequest i cause) g
     by ReadFault g = absurd g
     by WriteFault g = (g.0, front_along g.1)
-    by NoMemory (inl same) = inl same
-    by NoMemory (inr front) = inr (front_along front)
+    by NoMemory (untouched same) = untouched same
+    by NoMemory (behind_lines t) =
+        behind_lines (record { text = t.text; begins = first t.text t.begins; taken = t.taken })
+    by NoMemory (in_output takes front) = in_output takes (front_along front)
     by TooLong g = (says TooLong [] g.0, g.1)

@@ -1,5 +1,5 @@
 -- What a run does: which answer it gives, and what it appends.
-use Rattle.std.specs.Prelude.{◌≡◌, ◌⊎◌, ℕ, List, [], ◌++◌, Bool, true, Option, Some, IfSome}
+use Rattle.std.specs.Prelude.{◌≡◌, ℕ, List, [], ◌++◌, Bool, true, Option, Some, IfSome}
 use Rattle.localise_run.specs.Answers.{Says, SaysFirst}
 use Rattle.localise_status.specs.Classes.{Class, Words, Reading, Refused, Answered, Writing, Memory, class_of}
 use Rattle.localise_run.specs.declared.command.Command.{Command}
@@ -16,16 +16,23 @@ pub record Appended {O : Type 0} (took : O → List ℕ → O → Type 0) (held 
   pub taken : took old text new
   pub told : (before : List ℕ) → held old ≡ Some before → held new ≡ Some (before ++ text)
 
--- an output before and behind a run, and how many of its calls had failed
+-- an output before and behind a run, how many of its calls had failed, and whether it takes memory
 pub record Written (O : Type 0) : Type 0 where
   pub old : O
   pub new : O
   pub faults_before : ℕ
   pub faults_now : ℕ
+  pub takes_memory : Bool
 
--- an output that counts its faults so
-abbrev pub written : {O : Type 0} → (O → ℕ) → O → O → Written O
-written faults old new = record { old = old; new = new; faults_before = faults old; faults_now = faults new }
+-- an output that counts its faults so, and takes memory so
+abbrev pub written : {O : Type 0} → (O → ℕ) → (O → Bool) → O → O → Written O
+written faults takes_memory old new = record {
+  old = old;
+  new = new;
+  faults_before = faults old;
+  faults_now = faults new;
+  takes_memory = takes_memory old;
+}
 
 -- `Says` tells which answers there are, and the text that each appends; `First` tells texts that begin one
 module _ {O : Type 0} (took : O → List ℕ → O → Type 0) (Says : Status → List ℕ → Type 0) (First : List ℕ → Type 0) (x : Written O) where
@@ -41,6 +48,19 @@ module _ {O : Type 0} (took : O → List ℕ → O → Type 0) (Says : Status �
     pub begins : First text
     pub front : TookPrefix took x.old text x.new
 
+  -- all of a text that begins one was taken
+  pub record TookFirst : Type 0 where
+    pub text : List ℕ
+    pub begins : First text
+    pub taken : took x.old text x.new
+
+  -- Memory ran out: before anything was taken, behind whole lines, or inside the output, if it takes
+  -- memory. So no line is cut, unless the output itself found no memory.
+  pub data RanOut : Type 0 where
+    untouched : x.new ≡ x.old → RanOut
+    behind_lines : TookFirst → RanOut
+    in_output : x.takes_memory ≡ true → TookFront → RanOut
+
   -- what was appended under each class of answers
   abbrev pub Wrote : Class → Status → Type 0
   Wrote Words answer = ⊥
@@ -48,7 +68,7 @@ module _ {O : Type 0} (took : O → List ℕ → O → Type 0) (Says : Status �
   Wrote Refused answer = Says answer [] × (x.new ≡ x.old)
   Wrote Answered answer = TookText answer
   Wrote Writing answer = Rose x.faults_before x.faults_now × TookFront
-  Wrote Memory answer = (x.new ≡ x.old) ⊎ TookFront
+  Wrote Memory answer = RanOut
 
   -- what was appended under an answer
   abbrev pub Gives : Status → Type 0
@@ -86,5 +106,5 @@ module _ {O : Type 0} (took : O → List ℕ → O → Type 0) (faults : O → �
       (status : Status) : Type 0 where
     pub answer : Status
     pub ran : O
-    pub runs : Runs took command left before now (written faults old ran) (class_of answer) answer
+    pub runs : Runs took command left before now (written faults takes_memory old ran) (class_of answer) answer
     pub is_flushed : IsFlushed ran new answer status

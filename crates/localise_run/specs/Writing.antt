@@ -1,5 +1,5 @@
 -- Writing the line of one request.
-use Rattle.std.specs.Prelude.{◌≡◌, ◌⊎◌, ℕ, List}
+use Rattle.std.specs.Prelude.{◌≡◌, ◌⊎◌, ℕ, List, true}
 use Rattle.localise_status.specs.Classes.{Class, Words, Reading, Refused, Answered, Writing, Memory, class_of}
 use Rattle.localise_run.specs.Run.{Written}
 use Rattle.localise_status.specs.declared.status.RequestCause.{RequestCause}
@@ -36,7 +36,7 @@ module _ {O : Type 0} (took : O → List ℕ → O → Type 0) (Line : Request �
   FailsBy Refused status = ⊥
   FailsBy Answered status = GetsNone status
   FailsBy Writing status = Rose x.faults_before x.faults_now × TookLineFront
-  FailsBy Memory status = (x.new ≡ x.old) ⊎ TookLineFront
+  FailsBy Memory status = (x.new ≡ x.old) ⊎ ((x.takes_memory ≡ true) × TookLineFront)
 
   abbrev pub FailsLine : Status → Type 0
   FailsLine status = FailsBy (class_of status) status

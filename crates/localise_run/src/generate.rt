@@ -50,7 +50,7 @@ pub(crate) fn write_numbers<O: Sink>(
         → Gives O.took
         (AreGenerated tables.now bundles (root_of localiser.now) (made requests.old 0 count))
         (AreNumbers tables.now bundles (root_of localiser.now) (made requests.old 0 count))
-        (written O.faults out.old out.new) result }
+        (written O.faults O.takes_memory out.old out.new) result }
 {
     match count_lines(alloc, tables, localiser, requests, count) {
         Ok(counted) => match write_counted(&counted, out) {

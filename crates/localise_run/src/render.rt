@@ -33,7 +33,7 @@ pub(crate) fn write_lines<O: Sink>(
     ensures { (bundles : List Meaning) → AreAlike (meanings localiser.now) bundles
         → Gives O.took (AreRendered tables.now bundles (root_of localiser.now) requests.now)
         (BeginRendered tables.now bundles (root_of localiser.now) requests.now)
-        (written O.faults out.old out.new) result }
+        (written O.faults O.takes_memory out.old out.new) result }
 {
     let Ok(mut tags) = KnownTags::new(alloc) else {
         return Status::NoMemory;
@@ -69,11 +69,11 @@ pub(crate) fn write_request<O: Sink>(
     ensures ok { (bundles : List Meaning) → AreAlike (meanings localiser.now) bundles
         → OnOk result (TookLine O.took (IsLine tables.now bundles (root_of localiser.now))
         (IsLineFault tables.now bundles (root_of localiser.now))
-        (written O.faults out.old out.new) number request.now) }
+        (written O.faults O.takes_memory out.old out.new) number request.now) }
     ensures err { (bundles : List Meaning) → AreAlike (meanings localiser.now) bundles
         → IfErr result (FailsLine O.took (IsLine tables.now bundles (root_of localiser.now))
         (IsLineFault tables.now bundles (root_of localiser.now))
-        (written O.faults out.old out.new) number request.now) }
+        (written O.faults O.takes_memory out.old out.new) number request.now) }
 {
     let _tables = tables;
     let Ok(found) = localiser.find(locale, request) else {

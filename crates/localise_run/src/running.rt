@@ -53,7 +53,7 @@ pub fn run<S: Source, O: Sink, E: Sink>(
     ensures bad_words { (result ≡ Status.BadWords) ↔ AreNoCommand words.now }
     ensures runs { (command : Command) → IsCommand words.now command
         → Runs O.took command (S.left source.old) (S.faults source.old) (S.faults source.new)
-        (written O.faults out.old out.new) (class_of result) result }
+        (written O.faults O.takes_memory out.old out.new) (class_of result) result }
     ensures no_fault { result ≡ Status.TooLong → S.faults source.new ≡ S.faults source.old }
     ensures unread { result ≡ Status.BadWords → (source.new ≡ source.old) × (out.new ≡ out.old) }
 
@@ -145,7 +145,7 @@ fn run_words<S: Source, O: Sink>(
     ensures unread { result ≡ Status.BadWords → (source.new ≡ source.old) × (out.new ≡ out.old) }
     ensures runs { (command : Command) → IsCommand words.now command
         → Runs O.took command (S.left source.old) (S.faults source.old) (S.faults source.new)
-        (written O.faults out.old out.new) (class_of result) result }
+        (written O.faults O.takes_memory out.old out.new) (class_of result) result }
     ensures read_to_end { ComesAtEnd result
         → IsReadToEnd S.left S.ended S.faults source.old source.new }
     ensures no_fault { result ≡ Status.TooLong → S.faults source.new ≡ S.faults source.old }
@@ -164,7 +164,7 @@ fn run_command<S: Source, O: Sink>(
     out: &mut O,
 ) -> Status
     ensures runs { Runs O.took command (S.left source.old) (S.faults source.old)
-        (S.faults source.new) (written O.faults out.old out.new) (class_of result) result }
+        (S.faults source.new) (written O.faults O.takes_memory out.old out.new) (class_of result) result }
     ensures read_to_end { ComesAtEnd result
         → IsReadToEnd S.left S.ended S.faults source.old source.new }
     ensures no_fault { result ≡ Status.TooLong → S.faults source.new ≡ S.faults source.old }
@@ -191,7 +191,7 @@ fn of_reading(error: ReadError) -> Status
 fn run_over<O: Sink>(alloc: Global, command: Command, bytes: Vec<u8>, out: &mut O) -> Status
     requires { length bytes.items ≤ most_bytes }
     ensures { Gives O.took (Says command bytes.items) (SaysFirst command bytes.items)
-        (written O.faults out.old out.new) result }
+        (written O.faults O.takes_memory out.old out.new) result }
 {
     match read_document(alloc, bytes) {
         Ok(mut document) => run_document(alloc, command, &mut document, out),
@@ -207,7 +207,7 @@ fn run_document<O: Sink>(
     out: &mut O,
 ) -> Status
     ensures { Gives O.took (IsAnswer command document.old) (IsBegun command document.old)
-        (written O.faults out.old out.new) result }
+        (written O.faults O.takes_memory out.old out.new) result }
 {
     match tables_of(alloc, &document.registry, &document.fallback) {
         Ok(tables) => run_bundles(alloc, command, &tables, document, out),
@@ -225,7 +225,7 @@ fn run_bundles<O: Sink>(
 ) -> Status
     requires { HasTables document.old tables.now }
     ensures { Gives O.took (IsAnswer command document.old) (IsBegun command document.old)
-        (written O.faults out.old out.new) result }
+        (written O.faults O.takes_memory out.old out.new) result }
 {
     match localiser_of(alloc, tables, &document.bundles, &document.root) {
         Ok(localiser) => {
@@ -257,7 +257,7 @@ fn run_requests<O: Sink>(
     ensures { (bundles : List Meaning) → AreAlike (meanings localiser.now) bundles
         → Gives O.took (IsMade command tables.now bundles (root_of localiser.now) requests.old)
         (Begins command tables.now bundles (root_of localiser.now) requests.old)
-        (written O.faults out.old out.new) result }
+        (written O.faults O.takes_memory out.old out.new) result }
 {
     match command {
         Command::Render => write_lines(alloc, tables, localiser, requests, out),

@@ -28,7 +28,7 @@ pub(crate) fn write_walks<O: Sink>(
     out: &mut O,
 ) -> Status
     ensures { Gives O.took (AreWalked tables.now requests.now) (BeginWalked tables.now requests.now)
-        (written O.faults out.old out.new) result }
+        (written O.faults O.takes_memory out.old out.new) result }
 {
     let Ok(mut tags) = KnownTags::new(alloc) else {
         return Status::NoMemory;
@@ -56,9 +56,9 @@ fn write_walk<O: Sink>(
 ) -> Result<(), Status>
     requires { Wants tables.now request.now locale }
     ensures ok { OnOk result (TookLine O.took (IsWalkLine tables.now) (IsWalkFault tables.now)
-        (written O.faults out.old out.new) number request.now) }
+        (written O.faults O.takes_memory out.old out.new) number request.now) }
     ensures err { IfErr result (FailsLine O.took (IsWalkLine tables.now) (IsWalkFault tables.now)
-        (written O.faults out.old out.new) number request.now) }
+        (written O.faults O.takes_memory out.old out.new) number request.now) }
 {
     let Some(steps) = steps_to_end(&tables.fallbacker, locale) else {
         return Err(Status::Request(number, RequestCause::ChainLoops));

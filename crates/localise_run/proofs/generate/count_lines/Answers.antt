@@ -1,5 +1,5 @@
 -- A line more is counted, or the request at which counting stops.
-use Rattle.std.proofs.Common.{◌≡◌, ℕ, zero, suc, ◌+◌, ◌<◌, ◌%◌, List, length, take, get_or, Bool, true, false, eqb, Ok, Err, Result, sym, ap, ◌∙◌, subst, arith}
+use Rattle.std.proofs.Common.{◌≡◌, ℕ, zero, suc, ◌+◌, ◌<◌, ◌%◌, List, length, take, get_or, Bool, true, false, eqb, Ok, Err, Result, refl, sym, ap, ◌∙◌, subst, arith}
 use Rattle.std.specs.Prelude.{OnOk, is_err}
 use Rattle.localise.specs.Meaning.{Meaning}
 use Rattle.localise.specs.Views.{root_of}
@@ -91,7 +91,7 @@ returns-in-Err-write_request-clause-err c = λ bundles alike.
     (c.loop-number.invariant.lines_counted bundles alike)
     (got_made old now h some n c.args.count within r q c.index-requests-place.is is_made)
     (subst (λ (p : Request). FailsLine Counts (IsLine T bundles root) (IsLineFault T bundles root)
-    (written (λ (m : ℕ). 0) c.loop-number.lines c.write_request.new.out) n p c.in-Err-write_request.status) back
+    (written (λ (m : ℕ). 0) (λ (m : ℕ). false) c.loop-number.lines c.write_request.new.out) n p c.in-Err-write_request.status) back
     (c.in-Err-write_request.ensures.err bundles alike))
 
 pub loop-number-preserved : goal.loop-number-preserved
@@ -122,7 +122,7 @@ loop-number-preserved c =
           (subst (λ (p : Request). Wants T p l) is_made (subst (λ (p : Request). Wants T p l) back c.in-Ok.ensures.ok)));
       lines_counted = λ (bundles : List Meaning) alike.
           let line = c.in-Ok-write_request.ensures.ok bundles alike in
-          wrote_more Counts (λ (m : ℕ). 0) Counts-both (λ a b t p. omega arith) (IsLine T bundles root) (IsLineFault T bundles root) made_all
+          wrote_more Counts (λ (m : ℕ). 0) (λ (m : ℕ). false) Counts-both (λ a b t p. omega arith) (λ a b t p. refl) (IsLine T bundles root) (IsLineFault T bundles root) made_all
           0 c.loop-number.lines c.write_request.new.out n q line.line (c.loop-number.invariant.lines_counted bundles alike) next stand
           (subst (λ (p : Request). IsLine T bundles root p line.line) back line.is) line.taken;
       visits = λ (bundles : List Meaning) alike.

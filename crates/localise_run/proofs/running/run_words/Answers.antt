@@ -9,7 +9,7 @@ use Rattle.localise_run.proofs.running.run_words.Goals as goal
 pub returns-in-Some-clause-runs : goal.returns-in-Some-clause-runs
 returns-in-Some-clause-runs g c = λ command is.
     subst (λ (x : Command). Runs g.O.Sink.took x (g.S.Source.left c.args.source.now) (g.S.Source.faults c.args.source.now)
-    (g.S.Source.faults c.run_command.new.source) (written g.O.Sink.faults c.args.out.now c.run_command.new.out)
+    (g.S.Source.faults c.run_command.new.source) (written g.O.Sink.faults g.O.Sink.takes_memory c.args.out.now c.run_command.new.out)
     (class_of c.run_command.result) c.run_command.result)
     (one_command c.args.words.now c.in-Some.command command c.in-Some.ensures is)
     c.run_command.ensures.runs
