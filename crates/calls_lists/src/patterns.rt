@@ -95,6 +95,20 @@ pub fn of_patterns<'a>(alloc: Global, call: &str, arguments: &'a [Value]) -> Ans
         ("length_hint", [given, len]) => {
             patterns_of(alloc, given).and_then(|patterns| length_hint(alloc, &patterns, len))
         }
+        (name, []) => Ok(answers::text(alloc, length_named(name)?)?),
+        _ => Err(Wrong::Call),
+    }
+}
+
+/// The name of a length, by its constant.
+fn length_named<'a>(name: &str) -> Result<&'static str, Wrong<'a>> {
+    match name {
+        "NARROW" => Ok(ListFormatterPatterns::NARROW),
+        "SHORT" => Ok(ListFormatterPatterns::SHORT),
+        "WIDE" => Ok(ListFormatterPatterns::WIDE),
+        "NARROW_STR" => Ok(ListFormatterPatterns::NARROW_STR),
+        "SHORT_STR" => Ok(ListFormatterPatterns::SHORT_STR),
+        "WIDE_STR" => Ok(ListFormatterPatterns::WIDE_STR),
         _ => Err(Wrong::Call),
     }
 }
