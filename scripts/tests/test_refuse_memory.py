@@ -19,9 +19,8 @@ int main(void) {
     block = realloc(block, 1000);
     if (!block) AT_SECOND;
     strcpy(block, "Salut\\n");
-    if (write(1, block, 3) != 3) return 9;
-    if (!calloc(5, 20)) return no_memory();
-    return write(1, block + 3, 3) == 3 ? 0 : 9;
+    if (write(1, block, 6) != 6) return 9;
+    return calloc(5, 20) ? 0 : no_memory();
 }
 """
 
@@ -42,13 +41,14 @@ class RefuseMemory(InFolder):
             done.stdout.decode(),
             "cases: 1; requests for memory: 3, at most 3 in one case; runs: 6\n"
             "4: status 10, nothing printed\n"
-            "2: status 10, a front of the lines\n",
+            "2: status 10, lines in front\n",
         )
 
     def test_other_endings(self) -> None:
         endings = {
             "abort()": "status=-6",
             "return write(1, \"Ja\", 2)": "lines=b'Ja'",
+            "return write(1, \"Sal\", 3) == 3 ? no_memory() : 9": "lines=b'Sal'",
             "return 10": None,
             "return write(2, \"no\", 2) + 8": "fault=b'no'",
             "return 3": "status=3",
