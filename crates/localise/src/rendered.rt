@@ -1,4 +1,4 @@
-ghost use Rattle.std.specs.Prelude.{◌≡◌, ◌≢◌, ◌⊎◌, IfOk, IfErr, IsErrOf, OnErr, OnOk};
+ghost use Rattle.std.specs.Prelude.{◌≡◌, ◌≢◌, ◌⊎◌, IfOk, IfErr, IsErrOf, OnErr, OnOk, true};
 ghost use Rattle.localise.specs.Chosen.{Answer};
 ghost use Rattle.localise.specs.Given.{text_given};
 ghost use Rattle.localise.specs.Render.{HasAnswer, IsRefused, IsRendered, TookNoMore, told_of};
@@ -44,6 +44,8 @@ pub fn render<S: Sink>(
         → sink.new ≡ sink.old) }
     ensures cause { IsErrOf result RenderError.Sink
         → Rose (S.faults sink.old) (S.faults sink.new) }
+    ensures no_memory { IsErrOf result RenderError.NoMemory
+        → (sink.new ≡ sink.old) ⊎ (S.takes_memory sink.old ≡ true) }
     ensures appended { OnErr result
         (TookNoMore tables.now bundles.now root.now request.now S.took sink.old sink.new) }
 
@@ -78,6 +80,7 @@ fn write_found<S: Sink>(found: &Found<'_>, sink: &mut S) -> Result<Rendered, Ren
     ensures err { IfErr result (λ e. (e ≡ RenderError.Sink) ⊎ (e ≡ RenderError.NoMemory)) }
     ensures cause { IsErrOf result RenderError.Sink
         → Rose (S.faults sink.old) (S.faults sink.new) }
+    ensures no_memory { IsErrOf result RenderError.NoMemory → S.takes_memory sink.old ≡ true }
 {
     match found.write_to(sink) {
         Ok(()) => Ok(Rendered {

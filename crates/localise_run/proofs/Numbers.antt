@@ -99,7 +99,7 @@ module _ (T : Tables) (bundles : List Meaning) (root : Patterns) (qs : List Requ
 
     -- the numbers were written
     pub wrote_numbers : (new : O) (text : List ℕ) → AreNumbers T bundles root qs text → took old text new → GivesNumbers new Done
-    wrote_numbers new text are taken = record { text = text; says = all are refl; taken = taken }
+    wrote_numbers new text are taken = record { text = text; is = all are refl; taken = taken }
 
     -- the sink failed in them
     pub numbers_failing : (new : O) (text : List ℕ) (error : SinkError) → AreNumbers T bundles root qs text → TookPrefix took old text new
@@ -115,4 +115,4 @@ module _ (T : Tables) (bundles : List Meaning) (root : Patterns) (qs : List Requ
     no_numbers status nothing (stopped (all_lines h is) not) = absurd (not is)
     no_numbers status nothing (stopped (up_to {i = i} {cause = c} h is) not) =
         subst (GivesNumbers old) (sym is)
-        (record { text = []; says = refused (up_to h refl) (λ same. cc) refl; taken = nothing })
+        (record { text = []; is = refused (up_to h refl) (λ same. cc) refl; taken = nothing })

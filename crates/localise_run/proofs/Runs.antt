@@ -191,7 +191,7 @@ module _ {O : Type 0} (took : O → List ℕ → O → Type 0) (faults : O → �
       let r : Ran Done = subst Ran done ran in (
         r.bytes,
         r.read,
-        (r.gives.text, r.gives.says, record { taken = r.gives.taken; told = λ (h : List ℕ) is. took_held old new r.gives.text h r.gives.taken is }),
+        (r.gives.text, r.gives.is, record { taken = r.gives.taken; told = λ (h : List ℕ) is. took_held old new r.gives.text h r.gives.taken is }),
       )
 
   -- and so behind a flush
@@ -213,7 +213,7 @@ module _ {O : Type 0} (took : O → List ℕ → O → Type 0) (faults : O → �
         r.read,
         (
           r.gives.text,
-          r.gives.says,
+          r.gives.is,
           record {
             taken = whole;
             told = λ (h : List ℕ) is. took_held old behind r.gives.text h whole is;
@@ -243,7 +243,7 @@ module _ {O : Type 0} (took : O → List ℕ → O → Type 0) (faults : O → �
       let some = some_read left in (some.0, some.1, λ answer text says. inr fails)
 
   pub exact : OneAnswer → (status : Status) → Ran status → IsTheirs status
-  exact one Done r = certainly one Done r.bytes r.gives.text r.read r.gives.says
+  exact one Done r = certainly one Done r.bytes r.gives.text r.read r.gives.is
   exact one BadWords r = absurd r
   exact one NotJson r = certainly one NotJson r.bytes [] r.read r.gives.0
   exact one (Shape place) r = certainly one (Shape place) r.bytes [] r.read r.gives.0
@@ -251,7 +251,7 @@ module _ {O : Type 0} (took : O → List ℕ → O → Type 0) (faults : O → �
   exact one (Bundle i cause) r = certainly one (Bundle i cause) r.bytes [] r.read r.gives.0
   exact one (DuplicateLocale i) r = certainly one (DuplicateLocale i) r.bytes [] r.read r.gives.0
   exact one (Root fault) r = certainly one (Root fault) r.bytes [] r.read r.gives.0
-  exact one (OfRequest i cause) r = certainly one (OfRequest i cause) r.bytes r.gives.text r.read r.gives.says
+  exact one (OfRequest i cause) r = certainly one (OfRequest i cause) r.bytes r.gives.text r.read r.gives.is
   exact one ReadFault r = failing ReadFault tt
   exact one WriteFault r = failing WriteFault tt
   exact one NoMemory r = failing NoMemory tt

@@ -4,7 +4,7 @@ use Rattle.std.specs.Prelude.{slice_get}
 use Rattle.localise_run.proofs.Lines.{lines_more}
 use Rattle.localise_run.specs.Causes.{status_of_sink, status_of_tag}
 use Rattle.localise_run.specs.Requests.{AreAnswered, AreLines, BeginLines, all, up_to}
-use Rattle.localise_run.specs.Run.{Gives, TookFront, TookText, Written, behind_lines, in_output, untouched, written}
+use Rattle.localise_run.specs.Run.{Gives, TookAll, TookFront, Written, behind_lines, in_output, untouched, written}
 use Rattle.localise_run.specs.Writing.{FailsLine, GetsNone, TookLineFront}
 use Rattle.localise_status.specs.declared.status.RequestCause.{RequestCause}
 use Rattle.localise_status.specs.declared.status.RequestCause.TheVariants.{Tag}
@@ -52,7 +52,7 @@ module _ {O : Type 0} (took : O → List ℕ → O → Type 0) (faults : O → �
   pub wrote_all : (old new : O) → Wrote old (length qs) new → take (length qs) qs ≡ qs → Given old new Done
   wrote_all old new w whole = record {
     text = w.text;
-    says = all (subst (λ ps. AreLines Line Fault ps w.text) whole w.lines) refl;
+    is = all (subst (λ ps. AreLines Line Fault ps w.text) whole w.lines) refl;
     taken = w.taken;
   }
 
@@ -61,7 +61,7 @@ module _ {O : Type 0} (took : O → List ℕ → O → Type 0) (faults : O → �
       → Fault q cause → Given old new (OfRequest i cause)
   wrote_before old new i q cause w is fault = record {
     text = w.text;
-    says = up_to (record { request = q; request_is = is; before = w.lines; fault = fault }) refl;
+    is = up_to (record { request = q; request_is = is; before = w.lines; fault = fault }) refl;
     taken = w.taken;
   }
 
@@ -78,7 +78,7 @@ module _ {O : Type 0} (took : O → List ℕ → O → Type 0) (faults : O → �
   -- memory ran out before a request's line
   pub wrote_no_memory : (old new : O) (i : ℕ) → Wrote old i new → Given old new NoMemory
   wrote_no_memory old new i w =
-      behind_lines (record { text = w.text; begins = record { count = i; are = w.lines }; taken = w.taken })
+      behind_lines (record { text = w.text; is = record { count = i; are = w.lines }; taken = w.taken })
 
   -- a request's tag asks for no locale, or memory ran out
   pub wrote_to_tag : (old new : O) (i : ℕ) (q : Request) (cause : TagCause) → Wrote old i new → slice_get qs i ≡ Some q
@@ -128,8 +128,12 @@ pub gives_along : {O : Type 0} (took : O → List ℕ → O → Type 0) (Says Mo
     → (status : Status) → Gives took Says First x status → Gives took More Longer x status
 gives_along took Says More First Longer x says first = by
   where
-    text_along : (status : Status) → TookText took Says First x status → TookText took More Longer x status
-    text_along status t = record { text = t.text; says = says status t.text t.says; taken = t.taken }
+    all_along : {Is Also : List ℕ → Type 0} → ((text : List ℕ) → Is text → Also text)
+        → TookAll took x Is → TookAll took x Also
+    all_along also t = record { text = t.text; is = also t.text t.is; taken = t.taken }
+
+    text_along : (status : Status) → TookAll took x (Says status) → TookAll took x (More status)
+    text_along status t = all_along (says status) t
 
     front_along : TookFront took Says First x → TookFront took More Longer x
     front_along t = record { text = t.text; begins = first t.text t.begins; front = t.front }
@@ -147,7 +151,6 @@ gives_along took Says More First Longer x says first = by
     by ReadFault g = absurd g
     by WriteFault g = (g.0, front_along g.1)
     by NoMemory (untouched same) = untouched same
-    by NoMemory (behind_lines t) =
-        behind_lines (record { text = t.text; begins = first t.text t.begins; taken = t.taken })
+    by NoMemory (behind_lines t) = behind_lines (all_along first t)
     by NoMemory (in_output takes front) = in_output takes (front_along front)
     by TooLong g = (says TooLong [] g.0, g.1)

@@ -34,31 +34,25 @@ written faults takes_memory old new = record {
   takes_memory = takes_memory old;
 }
 
+-- all of a text of this kind was taken
+pub record TookAll {O : Type 0} (took : O → List ℕ → O → Type 0) (x : Written O) (Is : List ℕ → Type 0) : Type 0 where
+  pub text : List ℕ
+  pub is : Is text
+  pub taken : took x.old text x.new
+
 -- `Says` tells which answers there are, and the text that each appends; `First` tells texts that begin one
 module _ {O : Type 0} (took : O → List ℕ → O → Type 0) (Says : Status → List ℕ → Type 0) (First : List ℕ → Type 0) (x : Written O) where
-  -- all of the text of this answer was taken
-  pub record TookText (answer : Status) : Type 0 where
-    pub text : List ℕ
-    pub says : Says answer text
-    pub taken : took x.old text x.new
-
   -- a front of a text that begins one was taken
   pub record TookFront : Type 0 where
     pub text : List ℕ
     pub begins : First text
     pub front : TookPrefix took x.old text x.new
 
-  -- all of a text that begins one was taken
-  pub record TookFirst : Type 0 where
-    pub text : List ℕ
-    pub begins : First text
-    pub taken : took x.old text x.new
-
   -- Memory ran out: before anything was taken, behind whole lines, or inside the output, if it takes
   -- memory. So no line is cut, unless the output itself found no memory.
   pub data RanOut : Type 0 where
     untouched : x.new ≡ x.old → RanOut
-    behind_lines : TookFirst → RanOut
+    behind_lines : TookAll took x First → RanOut
     in_output : x.takes_memory ≡ true → TookFront → RanOut
 
   -- what was appended under each class of answers
@@ -66,7 +60,7 @@ module _ {O : Type 0} (took : O → List ℕ → O → Type 0) (Says : Status �
   Wrote Words answer = ⊥
   Wrote Reading answer = ⊥
   Wrote Refused answer = Says answer [] × (x.new ≡ x.old)
-  Wrote Answered answer = TookText answer
+  Wrote Answered answer = TookAll took x (Says answer)
   Wrote Writing answer = Rose x.faults_before x.faults_now × TookFront
   Wrote Memory answer = RanOut
 

@@ -164,7 +164,8 @@ fn run_command<S: Source, O: Sink>(
     out: &mut O,
 ) -> Status
     ensures runs { Runs O.took command (S.left source.old) (S.faults source.old)
-        (S.faults source.new) (written O.faults O.takes_memory out.old out.new) (class_of result) result }
+        (S.faults source.new) (written O.faults O.takes_memory out.old out.new)
+        (class_of result) result }
     ensures read_to_end { ComesAtEnd result
         → IsReadToEnd S.left S.ended S.faults source.old source.new }
     ensures no_fault { result ≡ Status.TooLong → S.faults source.new ≡ S.faults source.old }
