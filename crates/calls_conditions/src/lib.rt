@@ -1,8 +1,9 @@
 //! Calls of `lazy_dfa`.
 //!
 //! A condition is its pattern; where a further argument is true, it is determinised before it is
-//! used. A text is a text, or a whole number, which writes its digits. A stepper's pieces are a list
-//! of texts; each push is answered by null or by its refusal, and beside them stands the answer.
+//! used. A text is a text, or a whole number, which writes its digits. A stepper's pieces are a
+//! list of texts; each push is answered by null or by its refusal, and beside them stands the
+//! answer.
 #![tactic(auto)]
 
 use calls::answers;

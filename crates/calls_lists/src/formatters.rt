@@ -1,8 +1,9 @@
 //! Calls of formatters.
 //!
-//! A formatter is its patterns (see `patterns`). A table is a list of rows, each an object of `kind`
-//! (`And`, `Or` or `Unit`), `locale`, `length` (`Wide`, `Short` or `Narrow`) and `patterns`; a call
-//! of one takes the table, a locale, a length or null, and the items that its formatter joins.
+//! A formatter is its patterns (see `patterns`). A table is a list of rows, each an object of
+//! `kind` (`And`, `Or` or `Unit`), `locale`, `length` (`Wide`, `Short` or `Narrow`) and `patterns`;
+//! a call of one takes the table, a locale, a length or null, and the items that its formatter
+//! joins.
 
 use crate::errors::refused;
 use crate::patterns::patterns_of;

@@ -1,8 +1,8 @@
 //! Calls of patterns and conditions.
 //!
-//! Patterns are an object of the texts `start`, `middle`, `end` and `pair`, and of `end_special` and
-//! `pair_special` where they are there, each an object of the texts `condition` and `pattern`. A
-//! joiner pattern is answered by its JSON form, and a condition by its text.
+//! Patterns are an object of the texts `start`, `middle`, `end` and `pair`, and of `end_special`
+//! and `pair_special` where they are there, each an object of the texts `condition` and `pattern`.
+//! A joiner pattern is answered by its JSON form, and a condition by its text.
 
 use crate::errors::{refused, unread};
 use calls::answers;

@@ -6,7 +6,8 @@ use Rattle.writeable_sinks.specs.PartsSink.{Parts, TookMarks}
 use Rattle.writeable_sinks.specs.PartsSinkLaws.{TookMarks-open}
 
 -- an opening mark opens one more
-pub opened : (a b : Parts) (part : PartName) → TookMarks a (Open part ∷ []) b → length b.begun ≡ length a.begun + 1
+pub opened : (a b : Parts) (part : PartName) → TookMarks a (Open part ∷ []) b
+    → length b.begun ≡ length a.begun + 1
 opened a b part took = let marks = TookMarks-open a b (Open part ∷ []) took in omega arith
 
 -- a closing mark closes one

@@ -1,5 +1,6 @@
 -- The text of a chain that is some locales longer.
-use Rattle.std.proofs.Common.{◌≡◌, ℕ, zero, suc, ◌+◌, ◌-◌, ◌<◌, ◌≤◌, List, [], ◌∷◌, ◌++◌, map, refl, sym, ap, ◌∙◌, subst, append_assoc, append-nil, arith, zero-add}
+use Rattle.std.proofs.Common.{◌≡◌, ℕ, zero, suc, ◌+◌, ◌-◌, ◌<◌, ◌≤◌, List, [], ◌∷◌, ◌++◌, map, refl}
+use Rattle.std.proofs.Common.{sym, ap, ◌∙◌, subst, append_assoc, append-nil, arith, zero-add}
 use Rattle.std.proofs.lemmas.List.{map_push}
 use Rattle.std.proofs.lemmas.List.FromFn.{map-range_with_len_more}
 use Rattle.std.specs.List.{join_with_byte, range_with_len}
@@ -22,7 +23,8 @@ join_with_byte-more c first more (next ∷ others) =
 
 -- the pieces of a list, and one piece more
 join_with_byte-push : (c : ℕ) (all others : List (List ℕ)) (first more : List ℕ)
-    → all ≡ first ∷ others → join_with_byte c (all ++ more ∷ []) ≡ join_with_byte c all ++ (c ∷ more)
+    → all ≡ first ∷ others
+    → join_with_byte c (all ++ more ∷ []) ≡ join_with_byte c all ++ (c ∷ more)
 join_with_byte-push c all others first more e = rw e (join_with_byte-more c first more others)
 
 module _ (F : Tables) (l : Locale) where
@@ -53,8 +55,10 @@ module _ (F : Tables) (l : Locale) where
       (print (at F l 0)) (print (at F l (k + 1))) (ap (map print) (locales_to-cons k))
 
   -- some locales more
-  chain_text-grows : (k n : ℕ) → (rest : List ℕ) × (chain_text F l k ++ rest ≡ chain_text F l (n + k))
-  chain_text-grows k zero = ([], append-nil (chain_text F l k) ∙ ap (chain_text F l) (sym (zero-add k)))
+  chain_text-grows : (k n : ℕ)
+      → (rest : List ℕ) × (chain_text F l k ++ rest ≡ chain_text F l (n + k))
+  chain_text-grows k zero =
+      ([], append-nil (chain_text F l k) ∙ ap (chain_text F l) (sym (zero-add k)))
   chain_text-grows k (suc n) =
       let (rest, e) = chain_text-grows k n in
       let more : (n + k) + 1 ≡ suc n + k = omega arith in

@@ -1,5 +1,6 @@
 -- Patterns as JSON objects, from the stored text and its places.
-use Rattle.std.proofs.Common.{◌≡◌, ℕ, ◌+◌, ◌-◌, ◌≤◌, List, [], ◌++◌, length, take, drop, Result, Ok, Err, IfOk, refl, sym, ap, subst, ◌∙◌, arith, chars, codes}
+use Rattle.std.proofs.Common.{◌≡◌, ℕ, ◌+◌, ◌-◌, ◌≤◌, List, [], ◌++◌, length, take, drop, Result, Ok}
+use Rattle.std.proofs.Common.{Err, IfOk, refl, sym, ap, subst, ◌∙◌, arith, chars, codes}
 use Rattle.std.specs.Str.{IsUtf8}
 use Rattle.std.proofs.lemmas.Str.{encodes-chars, IsUtf8-take, IsUtf8-between}
 use Rattle.std.proofs.lemmas.List.{length-take, length-drop}
@@ -58,7 +59,8 @@ module _ (text bytes : List ℕ) (i j : ℕ) (utf8 : IsUtf8 bytes) (e : chars by
       let at_first = place_in text bytes i utf8 e first in
       let front : take i bytes ≡ [] =
       sym (encodes-chars (take i bytes) (IsUtf8-take bytes i utf8 at_first))
-      ∙ ap encodes (ap (λ (x : List ℕ). chars (take i x)) (sym (bytes_of text bytes utf8 e)) ∙ none) in
+      ∙ ap encodes
+      (ap (λ (x : List ℕ). chars (take i x)) (sym (bytes_of text bytes utf8 e)) ∙ none) in
       omega (arith, ap length front, length-take i bytes, at_first.0)
 
   -- a pattern without prefix is the one that its object is read as
@@ -69,7 +71,8 @@ module _ (text bytes : List ℕ) (i j : ℕ) (utf8 : IsUtf8 bytes) (e : chars by
     place = j;
     string_is = refl;
     place_is = refl;
-    stored = record { small = small; boundary = subst (λ (t : List ℕ). IsPlace t j) (sym e) second };
+    stored =
+        record { small = small; boundary = subst (λ (t : List ℕ). IsPlace t j) (sym e) second };
     pattern_is =
         ap (λ (t : List ℕ). pattern_at t i j) (sym e)
         ∙ ap (λ (n : ℕ). pattern_at (chars bytes) n j) (at_start none);

@@ -1,4 +1,5 @@
--- A stored pattern with a special: which of the two serves before a last item, and what is known of its length.
+-- A stored pattern with a special: which of the two serves before a last item, and what is known of
+-- its length.
 use Rattle.std.specs.Prelude.{ℕ, List, Option, Some, None, if◌then◌else◌}
 use Rattle.writeable_core.specs.declared.length_hint.LengthHint.{LengthHint}
 use Rattle.writeable_core.specs.Hint.{hint_either}
@@ -11,7 +12,8 @@ use Rattle.icu_list.specs.declared.provider.conditional.SpecialCasePattern.{Spec
 -- the special where its condition holds on the last item
 abbrev pub chosen_by : Pattern → Option SpecialCasePattern → List ℕ → Pattern
 chosen_by default None last = default
-chosen_by default (Some special) last = if applies special.condition last then special.pattern else default
+chosen_by default (Some special) last =
+    if applies special.condition last then special.pattern else default
 
 -- the pattern that serves before a last item
 abbrev pub chosen : ConditionalListJoinerPattern → List ℕ → Pattern

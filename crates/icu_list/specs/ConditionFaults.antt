@@ -4,7 +4,9 @@ use Rattle.lazy_dfa.specs.Refusals.{IsRefused}
 use Rattle.lazy_dfa.specs.declared.error.ConditionError.{ConditionError}
 use Rattle.lazy_dfa.specs.declared.error.ConditionError.TheVariants as condition
 use Rattle.icu_list.specs.declared.error.DataError.{DataError}
-use Rattle.icu_list.specs.declared.error.DataError.TheVariants.{InvalidPattern, CannotStore, Condition, MissingLocale, NotJsonForm, NoMemory}
+use Rattle.icu_list.specs.declared.error.DataError.TheVariants.{InvalidPattern, CannotStore}
+use Rattle.icu_list.specs.declared.error.DataError.TheVariants.{Condition, MissingLocale}
+use Rattle.icu_list.specs.declared.error.DataError.TheVariants.{NotJsonForm, NoMemory}
 
 -- the error of a condition as one of a pattern: want of memory is its own
 abbrev pub error_of : ConditionError → DataError
@@ -25,7 +27,8 @@ IsConditionFault pattern NotJsonForm = ⊥
 -- why a JSON value is no condition: it is no text, or its text is none
 abbrev pub IsJsonConditionFault : Option (List ℕ) → DataError → Type 0
 IsJsonConditionFault text NotJsonForm = text ≡ None
-IsJsonConditionFault text (Condition error) = IsSomeAnd text (λ bytes. IsConditionFault (chars bytes) (Condition error))
+IsJsonConditionFault text (Condition error) =
+    IsSomeAnd text (λ bytes. IsConditionFault (chars bytes) (Condition error))
 IsJsonConditionFault text NoMemory = Unit {0}
 IsJsonConditionFault text InvalidPattern = ⊥
 IsJsonConditionFault text CannotStore = ⊥

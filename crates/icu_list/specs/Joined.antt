@@ -1,4 +1,5 @@
--- A list is joined by nested substitution: start(a, middle(b, .. end(c, d))) (UTS 35, List Patterns).
+-- A list is joined by nested substitution: start(a, middle(b, .. end(c, d))) (UTS 35, List
+-- Patterns).
 use Rattle.std.specs.Prelude.{ℕ, List, [], ◌∷◌, ◌++◌, map, codes, chars}
 use Rattle.writeable_core.specs.Marks.{Mark, PartName, plain, inside}
 use Rattle.icu_list.specs.Pattern.{Pattern}
@@ -65,6 +66,7 @@ element = inside element_name
 abbrev pub literal : List ℕ → List Mark
 literal text = inside literal_name (plain text)
 
--- The same over marked texts, each item inside an element part, each text of a pattern inside a literal part.
+-- The same over marked texts, each item inside an element part, each text of a pattern inside a
+-- literal part.
 abbrev pub marked_joined : Patterns → List (List ℕ) → List (List Mark) → List Mark
 marked_joined p items marked = nested literal p (last_of items) (map element marked)

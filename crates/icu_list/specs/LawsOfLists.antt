@@ -12,11 +12,13 @@ use Rattle.icu_list.specs.ListHint.{list_hint}
 
 -- a condition applies to a text exactly where it holds on it
 abbrev pub ConditionsApply : Type 0
-ConditionsApply = (pattern : List ℕ) (e : Expression) (text : List ℕ) → condition pattern e → (applies pattern text ≡ true) ↔ holds e text
+ConditionsApply = (pattern : List ℕ) (e : Expression) (text : List ℕ) → condition pattern e
+    → (applies pattern text ≡ true) ↔ holds e text
 
 -- a pattern text has one expression at most
 abbrev pub OneExpression : Type 0
-OneExpression = (pattern : List ℕ) (e f : Expression) → condition pattern e → condition pattern f → e ≡ f
+OneExpression = (pattern : List ℕ) (e f : Expression) → condition pattern e
+    → condition pattern f → e ≡ f
 
 -- the characters of a marked list are the list of the items' characters
 abbrev pub CharactersAreJoined : Type 0
@@ -29,5 +31,6 @@ HasNoSpecial p = (p.end.special ≡ None) × IfSome p.pair (λ pair. pair.specia
 
 -- without specials the hint of a list of texts is exact, where its bytes fit a `usize`
 abbrev pub HintsAreExact : Type 0
-HintsAreExact = (p : Patterns) (items : List (List ℕ)) → HasNoSpecial p → byte_length (joined p items) < 2 ^ 64
+HintsAreExact = (p : Patterns) (items : List (List ℕ)) → HasNoSpecial p
+    → byte_length (joined p items) < 2 ^ 64
     → list_hint p (map text_hint items) ≡ exact (byte_length (joined p items))

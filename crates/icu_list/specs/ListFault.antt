@@ -1,6 +1,7 @@
--- The patterns that a list's texts are, or their first fault: start, middle, end and pair in this order, then the special
--- of the end and that of the pair, each condition before its pattern.
-use Rattle.std.specs.Prelude.{◌≡◌, ℕ, Bool, true, false, List, [], ◌∷◌, ◌++◌, Option, Some, None, Result, Ok, Err}
+-- The patterns that a list's texts are, or their first fault: start, middle, end and pair in this
+-- order, then the special of the end and that of the pair, each condition before its pattern.
+use Rattle.std.specs.Prelude.{◌≡◌, ℕ, Bool, true, false, List, [], ◌∷◌, ◌++◌, Option, Some, None}
+use Rattle.std.specs.Prelude.{Result, Ok, Err}
 use Rattle.lazy_dfa.specs.Expression.{Expression}
 use Rattle.lazy_dfa.specs.declared.error.ConditionError.{ConditionError}
 use Rattle.writeable_core.specs.Texts.{same_text}
@@ -27,7 +28,15 @@ pub record ListTexts : Type 0 where
 
 -- the texts of patterns without specials
 abbrev pub without_specials : List ℕ → List ℕ → List ℕ → List ℕ → ListTexts
-without_specials start middle end pair = record { start = start; middle = middle; end = end; pair = pair; end_special = None; pair_special = None }
+without_specials start middle end pair =
+    record {
+      start = start;
+      middle = middle;
+      end = end;
+      pair = pair;
+      end_special = None;
+      pair_special = None;
+    }
 
 -- why a text was refused, if it was
 abbrev pub fault : {A : Type 0} → Result A DataError → Option DataError
@@ -48,12 +57,15 @@ first_fault (Some e ∷ faults) = Some e
 -- a special pattern, of the end or of the pair: the end's has no prefix
 abbrev pub special_faults : Bool → Option SpecialTexts → List (Option DataError)
 special_faults prefix None = []
-special_faults prefix (Some s) = condition_fault (condition_of s.condition) ∷ fault (joiner prefix true s.pattern) ∷ []
+special_faults prefix (Some s) =
+    condition_fault (condition_of s.condition) ∷ fault (joiner prefix true s.pattern) ∷ []
 
 -- the first fault of a list's texts
 abbrev pub list_fault : ListTexts → Option DataError
 list_fault t =
-    first_fault (fault (joiner true false t.start) ∷ fault (middle t.middle) ∷ fault (joiner false true t.end) ∷ fault (joiner true true t.pair)
+    first_fault
+    (fault (joiner true false t.start) ∷ fault (middle t.middle)
+    ∷ fault (joiner false true t.end) ∷ fault (joiner true true t.pair)
     ∷ (special_faults false t.end_special ++ special_faults true t.pair_special))
 
 -- the error is the fault, unless memory ran out
@@ -67,7 +79,8 @@ pair_for true p = None
 pair_for false p = Some (record { default = p; special = None })
 
 -- the patterns that four texts are, without specials
-pub record ArePatternsOf (start_text middle_text end_text pair_text : List ℕ) (p : Patterns) : Type 0 where
+pub record ArePatternsOf (start_text middle_text end_text pair_text : List ℕ) (p : Patterns) :
+    Type 0 where
   pub start : Pattern
   pub end : Pattern
   pub pair : Pattern

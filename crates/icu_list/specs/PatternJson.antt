@@ -1,12 +1,15 @@
 -- Patterns as JSON objects: `string` is the text without placeholders, and `index_1` the place of
 -- the second item in it, in bytes.
-use Rattle.std.specs.Prelude.{◌≡◌, ℕ, ◌≤◌, List, ◌++◌, Option, Some, codes, chars, option_and_then, encode_utf8_all}
+use Rattle.std.specs.Prelude.{◌≡◌, ℕ, ◌≤◌, List, ◌++◌, Option, Some, codes, chars, option_and_then}
+use Rattle.std.specs.Prelude.{encode_utf8_all}
 use Rattle.serde_json.specs.Data.{Data, object, member, no_members, number, unsigned, string}
 use Rattle.writeable_core.specs.Hint.{byte_length}
 use Rattle.serde_json.specs.Find.{get, as_str, as_u64, as_number}
 use Rattle.icu_list.specs.Pattern.{Pattern, IsPlace, pattern_at, texts}
 use Rattle.icu_list.specs.declared.error.DataError.{DataError}
-use Rattle.icu_list.specs.declared.error.DataError.TheVariants.{InvalidPattern, CannotStore, Condition, MissingLocale, NotJsonForm, NoMemory}
+use Rattle.icu_list.specs.declared.error.DataError.TheVariants.{InvalidPattern, CannotStore}
+use Rattle.icu_list.specs.declared.error.DataError.TheVariants.{Condition, MissingLocale}
+use Rattle.icu_list.specs.declared.error.DataError.TheVariants.{NotJsonForm, NoMemory}
 
 -- the object of a pattern; what stands before the first item isn't told apart
 abbrev pub json_of : Pattern → Data
@@ -38,7 +41,8 @@ pub record IsOfJson (d : Data) (p : Pattern) : Type 0 where
 
 -- no text and place that can be stored
 abbrev pub HasNoPattern : Data → Type 0
-HasNoPattern d = (text : List ℕ) (place : ℕ) → string_of d ≡ Some text → place_of d ≡ Some place → IsStoredPlace (chars text) place → ⊥
+HasNoPattern d = (text : List ℕ) (place : ℕ) → string_of d ≡ Some text → place_of d ≡ Some place
+    → IsStoredPlace (chars text) place → ⊥
 
 -- why an object is no pattern, unless memory ran out
 abbrev pub IsJsonFault : Data → DataError → Type 0

@@ -1,12 +1,15 @@
 -- Which texts are list patterns (UTS 35, List Patterns): the items' places are `{0}` and `{1}`.
-use Rattle.std.specs.Prelude.{◌≡◌, ℕ, ◌-◌, Bool, true, false, ◌||◌, ◌&&◌, nat_le, nat_eq, if◌then◌else◌, List, [], ◌∷◌, ◌++◌, length, take, drop, codes, Option, Some, None, Result, Ok, Err, ◌<◌}
+use Rattle.std.specs.Prelude.{◌≡◌, ℕ, ◌-◌, Bool, true, false, ◌||◌, ◌&&◌, nat_le, nat_eq}
+use Rattle.std.specs.Prelude.{if◌then◌else◌, List, [], ◌∷◌, ◌++◌, length, take, drop, codes, Option}
+use Rattle.std.specs.Prelude.{Some, None, Result, Ok, Err, ◌<◌}
 use Rattle.std.specs.List.{starts_with, ends_with}
 use Rattle.std.specs.Option.{option_map}
 use Rattle.writeable_core.specs.Hint.{byte_length}
 use Rattle.writeable_core.specs.FirstFailure.{Condition, first_failure}
 use Rattle.icu_list.specs.Pattern.{Pattern, pattern}
 use Rattle.icu_list.specs.declared.error.DataError.{DataError}
-use Rattle.icu_list.specs.declared.error.DataError.TheVariants.{InvalidPattern, CannotStore, NoMemory}
+use Rattle.icu_list.specs.declared.error.DataError.TheVariants.{InvalidPattern, CannotStore}
+use Rattle.icu_list.specs.declared.error.DataError.TheVariants.{NoMemory}
 
 -- what stands in a text before the first occurrence of a word, and what stands behind that
 abbrev pub cut : List ℕ → List ℕ → Option (List ℕ × List ℕ)
@@ -24,9 +27,10 @@ first_item = codes "{0}"
 abbrev pub second_item : List ℕ
 second_item = codes "{1}"
 
--- a pattern by what stands before the first item, whether a second item stands there, and what stands
--- before and behind the first second item behind it
-abbrev pub pattern_by : List ℕ → Option (List ℕ × List ℕ) → Option (List ℕ × List ℕ) → Option Pattern
+-- a pattern by what stands before the first item, whether a second item stands there, and what
+-- stands before and behind the first second item behind it
+abbrev pub pattern_by : List ℕ → Option (List ℕ × List ℕ) → Option (List ℕ × List ℕ)
+    → Option Pattern
 pattern_by prefix None (Some x) = Some (pattern prefix x.0 x.1)
 pattern_by prefix None None = None
 pattern_by prefix (Some early) x = None
@@ -73,11 +77,13 @@ joiner prefix suffix text = joiner_by prefix suffix (pattern_of text)
 
 -- a middle pattern has six characters or more (and so six bytes), begins `{0}` and ends `{1}`
 abbrev pub is_middle : List ℕ → Bool
-is_middle text = nat_le 6 (length text) && (starts_with nat_eq text first_item && ends_with nat_eq text second_item)
+is_middle text = nat_le 6 (length text)
+    && (starts_with nat_eq text first_item && ends_with nat_eq text second_item)
 
 -- what stands between the two items of a middle pattern
 abbrev pub middle : List ℕ → Result (List ℕ) DataError
-middle text = if is_middle text then Ok (take (length text - 6) (drop 3 text)) else Err InvalidPattern
+middle text =
+    if is_middle text then Ok (take (length text - 6) (drop 3 text)) else Err InvalidPattern
 
 -- the error is the fault, unless memory ran out
 abbrev pub IsFaultOf : {A : Type 0} → Result A DataError → DataError → Type 0

@@ -1,5 +1,6 @@
--- The patterns of a list: start, middle, end and pair (UTS 35, List Patterns). The start has nothing behind its second
--- place, the middle nothing before its first or behind its second, the end nothing before its first.
+-- The patterns of a list: start, middle, end and pair (UTS 35, List Patterns). The start has
+-- nothing behind its second place, the middle nothing before its first or behind its second, the
+-- end nothing before its first.
 use Rattle.std.specs.Prelude.{ℕ, List, [], Option, Some, None, if◌then◌else◌}
 use Rattle.icu_list.specs.Conditions.{applies}
 use Rattle.icu_list.specs.Pattern.{Pattern, pattern}
@@ -56,12 +57,14 @@ whole c = pattern [] c.between c.suffix
 -- the special where its condition holds on the last item
 abbrev pub closing_for : Closing → Option SpecialClosing → List ℕ → Closing
 closing_for default None last = default
-closing_for default (Some special) last = if applies special.condition last then special.pattern else default
+closing_for default (Some special) last =
+    if applies special.condition last then special.pattern else default
 
 -- the special where its condition holds on the last item
 abbrev pub pattern_for : Pattern → Option SpecialPattern → List ℕ → Pattern
 pattern_for default None last = default
-pattern_for default (Some special) last = if applies special.condition last then special.pattern else default
+pattern_for default (Some special) last =
+    if applies special.condition last then special.pattern else default
 
 -- the end pattern before a last item
 abbrev pub end_for : Patterns → List ℕ → Closing

@@ -2,7 +2,8 @@
 use Rattle.std.specs.Prelude.{ℕ, List, [], Option, Some, None}
 use Rattle.std.specs.Option.{option_map}
 use Rattle.icu_list.specs.Pattern.{Pattern}
-use Rattle.icu_list.specs.Patterns.{SpecialClosing, Ending, SpecialPattern, Pair, Patterns, opening_of, closing_of}
+use Rattle.icu_list.specs.Patterns.{SpecialClosing, Ending, SpecialPattern, Pair, Patterns}
+use Rattle.icu_list.specs.Patterns.{opening_of, closing_of}
 use Rattle.icu_list.specs.declared.provider.conditional.ConditionalListJoinerPattern.{ConditionalListJoinerPattern}
 use Rattle.icu_list.specs.declared.provider.conditional.SpecialCasePattern.{SpecialCasePattern}
 
@@ -12,7 +13,11 @@ special_closing_of s = record { condition = s.condition; pattern = closing_of s.
 
 -- an end with its special
 abbrev pub ending_of : ConditionalListJoinerPattern → Ending
-ending_of c = record { default = closing_of c.default; special = option_map special_closing_of c.special_case }
+ending_of c =
+    record {
+      default = closing_of c.default;
+      special = option_map special_closing_of c.special_case;
+    }
 
 -- the special of a pair
 abbrev pub special_pattern_of : SpecialCasePattern → SpecialPattern
@@ -28,7 +33,8 @@ prefix_of_special None = []
 prefix_of_special (Some s) = s.pattern.prefix
 
 -- the patterns of a start, a middle, an end and a pair
-abbrev pub patterns : Pattern → List ℕ → ConditionalListJoinerPattern → Option ConditionalListJoinerPattern → Patterns
+abbrev pub patterns : Pattern → List ℕ → ConditionalListJoinerPattern
+    → Option ConditionalListJoinerPattern → Patterns
 patterns start middle end pair = record {
   start = opening_of start;
   middle = middle;

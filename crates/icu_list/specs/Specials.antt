@@ -5,7 +5,13 @@ use Rattle.icu_list.specs.Patterns.{Patterns, Closing, SpecialClosing, Pair, Spe
 
 -- the patterns with a special end
 abbrev pub with_end : Patterns → SpecialClosing → Patterns
-with_end p special = record { start = p.start; middle = p.middle; end = record { default = p.end.default; special = Some special }; pair = p.pair }
+with_end p special =
+    record {
+      start = p.start;
+      middle = p.middle;
+      end = record { default = p.end.default; special = Some special };
+      pair = p.pair;
+    }
 
 -- the pair's default: where none is stored, that of the end
 abbrev pub pair_default : Closing → Option Pair → Pattern
@@ -14,4 +20,11 @@ pair_default end (Some pair) = pair.default
 
 -- the patterns with a special pair
 abbrev pub with_pair : Patterns → SpecialPattern → Patterns
-with_pair p special = record { start = p.start; middle = p.middle; end = p.end; pair = Some (record { default = pair_default p.end.default p.pair; special = Some special }) }
+with_pair p special =
+    record {
+      start = p.start;
+      middle = p.middle;
+      end = p.end;
+      pair =
+          Some (record { default = pair_default p.end.default p.pair; special = Some special });
+    }

@@ -34,7 +34,8 @@ same_length Narrow Short = false
 
 -- whether a row is of this kind, locale and length
 abbrev pub is_row_of : ListKind → Locale → ListLength → ListTableRow → Bool
-is_row_of kind locale length row = same_kind row.kind kind && (same_locale row.locale locale && same_length row.length length)
+is_row_of kind locale length row =
+    same_kind row.kind kind && (same_locale row.locale locale && same_length row.length length)
 
 -- the length that is set, or the default
 abbrev pub length_of : Option ListLength → ListLength

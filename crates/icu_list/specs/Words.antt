@@ -2,7 +2,9 @@
 use Rattle.std.specs.Prelude.{ℕ, List, codes}
 use Rattle.lazy_dfa.specs.Words as condition
 use Rattle.icu_list.specs.declared.error.DataError.{DataError}
-use Rattle.icu_list.specs.declared.error.DataError.TheVariants.{InvalidPattern, CannotStore, Condition, MissingLocale, NotJsonForm, NoMemory}
+use Rattle.icu_list.specs.declared.error.DataError.TheVariants.{InvalidPattern, CannotStore}
+use Rattle.icu_list.specs.declared.error.DataError.TheVariants.{Condition, MissingLocale}
+use Rattle.icu_list.specs.declared.error.DataError.TheVariants.{NotJsonForm, NoMemory}
 
 -- what `DataError::text` says
 abbrev pub words_of : DataError → List ℕ

@@ -1,5 +1,7 @@
 -- A text in pieces: how it compares, and that each piece of an ASCII text is ASCII.
-use Rattle.std.proofs.Common.{◌≡◌, ℕ, ◌+◌, ◌<◌, min, List, [], ◌∷◌, ◌++◌, Bor, Equal, Ordering, map, length, get_or, take, drop, refl, sym, ap, subst, ◌∙◌, take-append-drop}
+use Rattle.std.proofs.Common.{◌≡◌, ℕ, ◌+◌, ◌<◌, min, List, [], ◌∷◌, ◌++◌, Bor, Equal, Ordering, map}
+use Rattle.std.proofs.Common.{length, get_or, take, drop, refl, sym, ap, subst, ◌∙◌}
+use Rattle.std.proofs.Common.{take-append-drop}
 use Rattle.std.specs.Cmp.Lexicographic.{slice_cmp}
 use Rattle.std.specs.List.{concat}
 use Rattle.std.specs.Ordering.{nat_cmp, ordering_then}
@@ -17,19 +19,24 @@ module _ (pieces : List (Bor (List ℕ))) (i : ℕ) (d : Bor (List ℕ)) where
   -- the piece at i compares with the front of the rest, and what follows with what is behind
   cmp-piece : (n : ℕ) (rest piece front back : List ℕ) → i < length pieces
       → piece ≡ (get_or pieces i d).now
-      → n ≡ min (length (get_or pieces i d).now) (length rest) → front ≡ take n rest → back ≡ drop n rest
+      → n ≡ min (length (get_or pieces i d).now) (length rest) → front ≡ take n rest
+      → back ≡ drop n rest
       → slice_cmp nat_cmp (text_from pieces i) rest
-      ≡ ordering_then (slice_cmp nat_cmp piece front) (slice_cmp nat_cmp (text_from pieces (i + 1)) back)
+      ≡ ordering_then (slice_cmp nat_cmp piece front)
+      (slice_cmp nat_cmp (text_from pieces (i + 1)) back)
   cmp-piece n rest piece front back lt read is ahead behind =
       ap (λ l. slice_cmp nat_cmp (concat (map (λ p. p.now) l)) rest) (drop_more pieces i d lt)
-      ∙ rw (read, ahead, behind) (slice_cmp-cut n (get_or pieces i d).now rest (text_from pieces (i + 1)) is)
+      ∙ rw (read, ahead, behind)
+      (slice_cmp-cut n (get_or pieces i d).now rest (text_from pieces (i + 1)) is)
 
   -- a piece that compares equal leaves the answer to what follows
   pub cmp-equal_piece : (n : ℕ) (rest piece front back : List ℕ) → i < length pieces
       → piece ≡ (get_or pieces i d).now
-      → n ≡ min (length (get_or pieces i d).now) (length rest) → front ≡ take n rest → back ≡ drop n rest
+      → n ≡ min (length (get_or pieces i d).now) (length rest) → front ≡ take n rest
+      → back ≡ drop n rest
       → Equal ≡ slice_cmp nat_cmp piece front
-      → slice_cmp nat_cmp (text_from pieces i) rest ≡ slice_cmp nat_cmp (text_from pieces (i + 1)) back
+      → slice_cmp nat_cmp (text_from pieces i) rest
+      ≡ slice_cmp nat_cmp (text_from pieces (i + 1)) back
   cmp-equal_piece n rest piece front back lt read is ahead behind equal =
       cmp-piece n rest piece front back lt read is ahead behind
       ∙ ap (λ o. ordering_then o (slice_cmp nat_cmp (text_from pieces (i + 1)) back)) (sym equal)
@@ -37,7 +44,8 @@ module _ (pieces : List (Bor (List ℕ))) (i : ℕ) (d : Bor (List ℕ)) where
   -- a piece that does not compare equal is the answer
   pub cmp-other_piece : (n : ℕ) (rest piece front back : List ℕ) (o : Ordering) → i < length pieces
       → piece ≡ (get_or pieces i d).now → n ≡ min (length (get_or pieces i d).now) (length rest)
-      → front ≡ take n rest → back ≡ drop n rest → o ≡ slice_cmp nat_cmp piece front → (o ≡ Equal → ⊥)
+      → front ≡ take n rest → back ≡ drop n rest → o ≡ slice_cmp nat_cmp piece front
+      → (o ≡ Equal → ⊥)
       → slice_cmp nat_cmp (text_from pieces i) rest ≡ o
   cmp-other_piece n rest piece front back o lt read is ahead behind decides other =
       cmp-piece n rest piece front back lt read is ahead behind
@@ -46,12 +54,14 @@ module _ (pieces : List (Bor (List ℕ))) (i : ℕ) (d : Bor (List ℕ)) where
 
   -- one more piece
   pub concat-take-more : (piece : List ℕ) → i < length pieces → piece ≡ (get_or pieces i d).now
-      → concat (map (λ p. p.now) (take i pieces)) ++ piece ≡ concat (map (λ p. p.now) (take (i + 1) pieces))
+      → concat (map (λ p. p.now) (take i pieces)) ++ piece
+      ≡ concat (map (λ p. p.now) (take (i + 1) pieces))
   concat-take-more piece lt read =
       sym (ap (λ l. concat (map (λ p. p.now) l)) (take_more pieces i d lt)
       ∙ ap concat (map-append (λ p. p.now) (take i pieces) (get_or pieces i d ∷ []))
       ∙ concat-append (map (λ p. p.now) (take i pieces)) ((get_or pieces i d).now ∷ [])
-      ∙ ap (λ l. concat (map (λ p. p.now) (take i pieces)) ++ l) (append-nil (get_or pieces i d).now ∙ sym read))
+      ∙ ap (λ l. concat (map (λ p. p.now) (take i pieces)) ++ l)
+      (append-nil (get_or pieces i d).now ∙ sym read))
 
 -- each of two texts that are ASCII together is ASCII
 IsAscii-behind : (a b : List ℕ) → IsAscii (a ++ b) → IsAscii b
@@ -65,13 +75,15 @@ IsAscii-front a b h =
 
 -- the first pieces, and what is left
 concat-halves : (pieces : List (Bor (List ℕ))) (n : ℕ)
-    → concat (map (λ p. p.now) (take n pieces)) ++ text_from pieces n ≡ concat (map (λ p. p.now) pieces)
+    → concat (map (λ p. p.now) (take n pieces)) ++ text_from pieces n
+    ≡ concat (map (λ p. p.now) pieces)
 concat-halves pieces n =
     sym (concat-append (map (λ p. p.now) (take n pieces)) (map (λ p. p.now) (drop n pieces)))
     ∙ ap concat (sym (map-append (λ p. p.now) (take n pieces) (drop n pieces)))
     ∙ ap (λ l. concat (map (λ p. p.now) l)) (take-append-drop n pieces)
 
-module _ (pieces : List (Bor (List ℕ))) (text : List ℕ) (is : concat (map (λ p. p.now) pieces) ≡ text) (ascii : IsAscii text) where
+module _ (pieces : List (Bor (List ℕ))) (text : List ℕ)
+    (is : concat (map (λ p. p.now) pieces) ≡ text) (ascii : IsAscii text) where
   -- the first pieces of an ASCII text
   IsAscii-first : (n : ℕ) → IsAscii (concat (map (λ p. p.now) (take n pieces)))
   IsAscii-first n =
@@ -94,6 +106,8 @@ module _ (pieces : List (Bor (List ℕ))) (text : List ℕ) (is : concat (map (�
         ∙ concat-take-more pieces i d (get_or pieces i d).now lt refl
 
     -- the first pieces, the characters of one more, and what is left are the text
-    pub pieces-parts : (concat (map (λ p. p.now) (take i pieces)) ++ chars (get_or pieces i d).now) ++ text_from pieces (i + 1)
+    pub pieces-parts : (concat (map (λ p. p.now) (take i pieces)) ++ chars (get_or pieces i d).now)
+        ++ text_from pieces (i + 1)
         ≡ text
-    pieces-parts = ap (λ l. l ++ text_from pieces (i + 1)) pieces-more ∙ concat-halves pieces (i + 1) ∙ is
+    pieces-parts = ap (λ l. l ++ text_from pieces (i + 1)) pieces-more
+        ∙ concat-halves pieces (i + 1) ∙ is

@@ -1,5 +1,7 @@
 -- A text of subtags that are divided by `-` is read back subtag by subtag.
-use Rattle.std.proofs.Common.{◌≡◌, ◌≢◌, ℕ, ◌<◌, ◌≤◌, Bool, true, false, not, cond, ⊎_elim, List, [], ◌∷◌, ◌++◌, Option, Some, None, length, get_or, take, drop, refl, sym, ap, ◌∙◌, arith, take-append-drop, append_assoc}
+use Rattle.std.proofs.Common.{◌≡◌, ◌≢◌, ℕ, ◌<◌, ◌≤◌, Bool, true, false, not, cond, ⊎_elim, List, []}
+use Rattle.std.proofs.Common.{◌∷◌, ◌++◌, Option, Some, None, length, get_or, take, drop, refl, sym}
+use Rattle.std.proofs.Common.{ap, ◌∙◌, arith, take-append-drop, append_assoc}
 use Rattle.std.specs.Prelude.{◌==◌, ◌&&◌, codes, IfSome}
 use Rattle.std.specs.Char.{is_ascii_digit, is_ascii_lowercase, is_ascii_uppercase}
 use Rattle.std.specs.List.{list_all, position_or_len}
@@ -8,12 +10,14 @@ use Rattle.std.proofs.lemmas.Bool.Decides.{nat_tests}
 use Rattle.std.proofs.lemmas.List.{append-nil}
 use Rattle.std.proofs.lemmas.List.Sums.{prefix_len_is}
 use Rattle.icu_locale_core.specs.Locale.{Locale, IsLocale, PrintDetermines, marked, print}
-use Rattle.icu_locale_core.specs.Reading.{is_dash, before_dash, from_dash, leading, behind, taken, left}
+use Rattle.icu_locale_core.specs.Reading.{is_dash, before_dash, from_dash, leading, behind, taken}
+use Rattle.icu_locale_core.specs.Reading.{left}
 use Rattle.icu_locale_core.specs.Shapes.{is_small, is_language, is_script, is_region, is_variant}
 
 -- what `find` says of the place of the first `-`
 module _ (text : List ℕ) (n : ℕ) (within : n ≤ length text)
-    (before : (i : ℕ) → i < n → get_or text i 0 ≢ 45) (at : n < length text → get_or text n 0 ≡ 45) where
+    (before : (i : ℕ) → i < n → get_or text i 0 ≢ 45)
+    (at : n < length text → get_or text n 0 ≡ 45) where
   -- that place
   first_dash : position_or_len is_dash text ≡ n
   first_dash =
@@ -109,7 +113,8 @@ module _ (is : List ℕ → Bool) (plain : (s : List ℕ) → is s ≡ true → 
       → is (leading t) ≡ false → left is (marked (codes "-") o ++ t) ≡ t
   left-marked None t shape more other = rw other refl
   left-marked (Some s) t shape more other =
-      rw (leading-marked s t (plain s shape) more) (rw shape (behind-marked s t (plain s shape) more))
+      rw (leading-marked s t (plain s shape) more)
+      (rw shape (behind-marked s t (plain s shape) more))
 
 -- what is taken has the shape, and with what is left it is the text
 module _ (is : List ℕ → Bool) (nothing : is [] ≡ false) where
@@ -128,9 +133,11 @@ module _ (is : List ℕ → Bool) (nothing : is [] ≡ false) where
   taken-left (c ∷ text) = by_dash (is_dash c) refl
     where
       by_shape : is_dash c ≡ true → (b : Bool)
-          → marked (codes "-") (cond b (Some (before_dash text)) None) ++ cond b (from_dash text) (c ∷ text) ≡ c ∷ text
+          → marked (codes "-") (cond b (Some (before_dash text)) None)
+          ++ cond b (from_dash text) (c ∷ text) ≡ c ∷ text
       by_shape e true =
-          let dash : c ≡ 45 = grind (arith, nat_tests) in cc (take-append-drop (position_or_len is_dash text) text)
+          let dash : c ≡ 45 = grind (arith, nat_tests) in
+          cc (take-append-drop (position_or_len is_dash text) text)
       by_shape e false = refl
 
       by_dash : (b : Bool) → is_dash c ≡ b
@@ -160,7 +167,8 @@ print_parts l = simp append_assoc
 
 -- two pieces in front of a text are one
 glued : (a b x s y : List ℕ) → a ++ b ≡ s → x ≡ y → a ++ (b ++ x) ≡ s ++ y
-glued a b x s y front back = sym (append_assoc a b x) ∙ ap (λ l. l ++ x) front ∙ ap (λ l. s ++ l) back
+glued a b x s y front back =
+    sym (append_assoc a b x) ∙ ap (λ l. l ++ x) front ∙ ap (λ l. s ++ l) back
 
 -- each part in two pieces, a mark and a subtag
 pub print-pieces : (l : Locale) (language a b c d e f g h : List ℕ) → language ≡ l.language
@@ -213,7 +221,8 @@ region_plain s h =
     plain_by is_ascii_uppercase (λ c e. grind (arith, nat_tests)) s (grind (arith, nat_tests)))
     (λ (three : (length s == 3 && list_all is_ascii_digit s) ≡ true).
     plain_by is_ascii_digit (λ c e. grind (arith, nat_tests)) s (grind (arith, nat_tests)))
-    (or_cases (length s == 2 && list_all is_ascii_uppercase s) (length s == 3 && list_all is_ascii_digit s) h)
+    (or_cases (length s == 2 && list_all is_ascii_uppercase s)
+    (length s == 3 && list_all is_ascii_digit s) h)
 
 -- a variant
 variant_plain : (s : List ℕ) → is_variant s ≡ true → no_dash s ≡ true
@@ -279,57 +288,73 @@ module _ (l : Locale) (shape : IsLocale l) where
   -- no region leads the variant
   no_region : is_region (leading (variant_part l)) ≡ false
   no_region =
-      leading-other is_region is_variant variant_plain variant-region l.variant (subdivision_part l) shape.variant
+      leading-other is_region is_variant variant_plain variant-region l.variant
+      (subdivision_part l) shape.variant
       (dashed-subdivision l) (leading-subdivision is_region refl refl l.subdivision)
 
   -- no script leads the region
   no_script : is_script (leading (region_part l)) ≡ false
   no_script =
-      leading-other is_script is_region region_plain region-script l.region (variant_part l) shape.region dashed-variant
-      (leading-other is_script is_variant variant_plain variant-script l.variant (subdivision_part l) shape.variant
+      leading-other is_script is_region region_plain region-script l.region
+      (variant_part l) shape.region dashed-variant
+      (leading-other is_script is_variant variant_plain variant-script l.variant
+      (subdivision_part l) shape.variant
       (dashed-subdivision l) (leading-subdivision is_script refl refl l.subdivision))
 
   -- the language is read back
   pub language_is : before_dash (print l) ≡ l.language
   language_is =
       ap before_dash (print_parts l)
-      ∙ before-append l.language (script_part l) (language_plain l.language shape.language) dashed-script
+      ∙ before-append l.language (script_part l)
+      (language_plain l.language shape.language) dashed-script
 
   -- and what follows it
   pub rest_is : from_dash (print l) ≡ script_part l
   rest_is =
       ap from_dash (print_parts l)
-      ∙ from-append l.language (script_part l) (language_plain l.language shape.language) dashed-script
+      ∙ from-append l.language (script_part l)
+      (language_plain l.language shape.language) dashed-script
 
   -- then the script
   pub script_is : taken is_script (script_part l) ≡ l.script
-  script_is = taken-marked is_script script_plain l.script (region_part l) shape.script dashed-region no_script
+  script_is =
+      taken-marked is_script script_plain l.script
+      (region_part l) shape.script dashed-region no_script
 
   -- and what follows it
   pub past_script : left is_script (script_part l) ≡ region_part l
-  past_script = left-marked is_script script_plain l.script (region_part l) shape.script dashed-region no_script
+  past_script =
+      left-marked is_script script_plain l.script
+      (region_part l) shape.script dashed-region no_script
 
   -- the region
   pub region_is : taken is_region (region_part l) ≡ l.region
-  region_is = taken-marked is_region region_plain l.region (variant_part l) shape.region dashed-variant no_region
+  region_is =
+      taken-marked is_region region_plain l.region
+      (variant_part l) shape.region dashed-variant no_region
 
   -- and what follows it
   pub past_region : left is_region (region_part l) ≡ variant_part l
-  past_region = left-marked is_region region_plain l.region (variant_part l) shape.region dashed-variant no_region
+  past_region =
+      left-marked is_region region_plain l.region
+      (variant_part l) shape.region dashed-variant no_region
 
   -- the variant
   pub variant_is : taken is_variant (variant_part l) ≡ l.variant
   variant_is =
-      taken-marked is_variant variant_plain l.variant (subdivision_part l) shape.variant (dashed-subdivision l)
+      taken-marked is_variant variant_plain l.variant (subdivision_part l) shape.variant
+      (dashed-subdivision l)
       no_variant
 
   -- and what follows it
   pub past_variant : left is_variant (variant_part l) ≡ subdivision_part l
   past_variant =
-      left-marked is_variant variant_plain l.variant (subdivision_part l) shape.variant (dashed-subdivision l) no_variant
+      left-marked is_variant variant_plain l.variant (subdivision_part l) shape.variant
+      (dashed-subdivision l) no_variant
 
   -- what is left of the printed text behind its variant
-  pub last_is : left is_variant (left is_region (left is_script (from_dash (print l)))) ≡ marked (codes "-u-sd-") l.subdivision
+  pub last_is : left is_variant (left is_region (left is_script (from_dash (print l))))
+      ≡ marked (codes "-u-sd-") l.subdivision
   last_is = rw (rest_is, past_script, past_region, past_variant) refl
 
 -- ---- the printed text determines the locale
@@ -346,15 +371,25 @@ same_subdivision (Some s) (Some t) e = let same : s ≡ t = cc in ap Some same
 pub print-determines : PrintDetermines
 print-determines one other h k same =
     let language = sym (language_is one h) ∙ ap before_dash same ∙ language_is other k in
-    let from : script_part one ≡ script_part other = sym (rest_is one h) ∙ ap from_dash same ∙ rest_is other k in
+    let from : script_part one ≡ script_part other =
+    sym (rest_is one h) ∙ ap from_dash same ∙ rest_is other k in
     let script = sym (script_is one h) ∙ ap (taken is_script) from ∙ script_is other k in
-    let from : region_part one ≡ region_part other = sym (past_script one h) ∙ ap (left is_script) from ∙ past_script other k in
+    let from : region_part one ≡ region_part other =
+    sym (past_script one h) ∙ ap (left is_script) from ∙ past_script other k in
     let region = sym (region_is one h) ∙ ap (taken is_region) from ∙ region_is other k in
-    let from : variant_part one ≡ variant_part other = sym (past_region one h) ∙ ap (left is_region) from ∙ past_region other k in
+    let from : variant_part one ≡ variant_part other =
+    sym (past_region one h) ∙ ap (left is_region) from ∙ past_region other k in
     let variant = sym (variant_is one h) ∙ ap (taken is_variant) from ∙ variant_is other k in
-    let from : subdivision_part one ≡ subdivision_part other = sym (past_variant one h) ∙ ap (left is_variant) from ∙ past_variant other k in
+    let from : subdivision_part one ≡ subdivision_part other =
+    sym (past_variant one h) ∙ ap (left is_variant) from ∙ past_variant other k in
     let subdivision = same_subdivision one.subdivision other.subdivision from in
-    λ i. record { language = language i; script = script i; region = region i; variant = variant i; subdivision = subdivision i }
+    λ i. record {
+      language = language i;
+      script = script i;
+      region = region i;
+      variant = variant i;
+      subdivision = subdivision i;
+    }
 
 -- ---- what is read prints to the text
 
@@ -363,12 +398,14 @@ module _ (text : List ℕ) (l : Locale) where
   pub read-prints : l.language ≡ before_dash text → l.script ≡ taken is_script (from_dash text)
       → l.region ≡ taken is_region (left is_script (from_dash text))
       → l.variant ≡ taken is_variant (left is_region (left is_script (from_dash text)))
-      → marked (codes "-u-sd-") l.subdivision ≡ left is_variant (left is_region (left is_script (from_dash text)))
+      → marked (codes "-u-sd-") l.subdivision
+      ≡ left is_variant (left is_region (left is_script (from_dash text)))
       → print l ≡ text
   read-prints language script region variant subdivision =
       let rest = from_dash text in
       let last : variant_part l ≡ left is_region (left is_script rest) =
       cc (taken-left is_variant refl (left is_region (left is_script rest))) in
-      let middle : region_part l ≡ left is_script rest = cc (taken-left is_region refl (left is_script rest)) in
+      let middle : region_part l ≡ left is_script rest =
+      cc (taken-left is_region refl (left is_script rest)) in
       let whole : script_part l ≡ rest = cc (taken-left is_script refl rest) in
       print_parts l ∙ cc (take-append-drop (position_or_len is_dash text) text)

@@ -1,5 +1,6 @@
 -- What the shapes of subtags say of a text's bytes.
-use Rattle.std.proofs.Common.{◌≡◌, ℕ, Bool, true, List, [], ◌∷◌, length, ⊎_elim, arith, None, Option, Some, ◌<◌, lit<}
+use Rattle.std.proofs.Common.{◌≡◌, ℕ, Bool, true, List, [], ◌∷◌, length, ⊎_elim, arith, None}
+use Rattle.std.proofs.Common.{Option, Some, ◌<◌, lit<}
 use Rattle.std.specs.Prelude.{◌==◌, ◌&&◌, IfSome, codes}
 use Rattle.std.specs.Char.{is_ascii_digit, is_ascii_lowercase, is_ascii_uppercase}
 use Rattle.std.specs.List.{All, list_all}
@@ -9,10 +10,12 @@ use Rattle.std.proofs.lemmas.List.Elements.{All-nil, All-cons, All-weaker}
 use Rattle.std.proofs.lemmas.Str.{IsAscii-append}
 use Rattle.std.proofs.lemmas.Str.Ascii.{IsAscii-cons, IsAscii-from_all, IsAscii-nil}
 use Rattle.std.specs.Str.{IsAscii}
-use Rattle.tinystr.specs.ShapesLaws.{lowercase-bytes, small-bytes, tiny_region, tiny_script, tiny_variant, tiny-IsAscii}
+use Rattle.tinystr.specs.ShapesLaws.{lowercase-bytes, small-bytes, tiny_region, tiny_script}
+use Rattle.tinystr.specs.ShapesLaws.{tiny_variant, tiny-IsAscii}
 use Rattle.tinystr.specs.Text.{IsTinyText}
 use Rattle.icu_locale_core.specs.Locale.{IsLocale, Locale, marked, print}
-use Rattle.icu_locale_core.specs.Shapes.{is_small, IsLanguage, IsScript, IsRegion, IsVariant, IsSubtag}
+use Rattle.icu_locale_core.specs.Shapes.{is_small, IsLanguage, IsScript, IsRegion, IsVariant}
+use Rattle.icu_locale_core.specs.Shapes.{IsSubtag}
 
 -- ---- a subtag is a text that a `TinyStr` holds
 
@@ -84,8 +87,11 @@ print-IsAscii l shape =
     (IsAscii-append _ (marked (codes "-") l.region)
     (IsAscii-append l.language (marked (codes "-") l.script)
     (language-IsAscii l.language shape.language)
-    (marked-IsAscii (codes "-") l.script dash-IsAscii (some_ascii IsScript script-IsAscii l.script shape.script)))
-    (marked-IsAscii (codes "-") l.region dash-IsAscii (some_ascii IsRegion region-IsAscii l.region shape.region)))
-    (marked-IsAscii (codes "-") l.variant dash-IsAscii (some_ascii IsVariant variant-IsAscii l.variant shape.variant)))
+    (marked-IsAscii (codes "-") l.script dash-IsAscii
+    (some_ascii IsScript script-IsAscii l.script shape.script)))
+    (marked-IsAscii (codes "-") l.region dash-IsAscii
+    (some_ascii IsRegion region-IsAscii l.region shape.region)))
+    (marked-IsAscii (codes "-") l.variant dash-IsAscii
+    (some_ascii IsVariant variant-IsAscii l.variant shape.variant)))
     (marked-IsAscii (codes "-u-sd-") l.subdivision extension-IsAscii
     (some_ascii IsSubtag subtag-IsAscii l.subdivision shape.subdivision))

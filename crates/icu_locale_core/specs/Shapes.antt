@@ -5,7 +5,8 @@ use Rattle.std.specs.Prelude.{ℕ, Bool, ◌&&◌, List, length, IsTrue}
 use Rattle.std.specs.Char.{is_ascii_lowercase}
 use Rattle.std.specs.Int.{is_in_range}
 use Rattle.std.specs.List.{list_all}
-pub use Rattle.tinystr.specs.Shapes.{is_script, IsScript, is_region, IsRegion, is_small, is_variant, IsVariant}
+pub use Rattle.tinystr.specs.Shapes.{is_script, IsScript, is_region, IsRegion, is_small, is_variant}
+pub use Rattle.tinystr.specs.Shapes.{IsVariant}
 
 -- unicode_language_subtag, of two or three letters
 abbrev pub is_language : List ℕ → Bool

@@ -1,7 +1,8 @@
 //! The subtags at the front of a locale's text.
 ghost use Rattle.std.specs.Prelude.{◌≡◌, ◌≢◌, ℕ, List, Option, IfOk, IfSome, OnErr, codes};
 ghost use Rattle.icu_locale_core.specs.Locale.{marked};
-ghost use Rattle.icu_locale_core.specs.Reading.{before_dash, from_dash, leading, behind, taken, left};
+ghost use Rattle.icu_locale_core.specs.Reading.{before_dash, from_dash, leading, behind, taken};
+ghost use Rattle.icu_locale_core.specs.Reading.{left};
 ghost use Rattle.icu_locale_core.specs.Shapes.{is_script, is_region, is_variant, IsSubtag};
 
 use crate::{LocaleError, Region, Script, Subtag, Variant};

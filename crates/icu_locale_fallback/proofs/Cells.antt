@@ -1,6 +1,7 @@
 -- The subtags of a cell. A cell is seen as its characters and read as its bytes; those of a
 -- subtag are the same.
-use Rattle.std.proofs.Common.{◌≡◌, ℕ, List, Option, Some, None, Result, Ok, Err, IsUtf8, MatchOption, sym, ap, ◌∙◌, subst}
+use Rattle.std.proofs.Common.{◌≡◌, ℕ, List, Option, Some, None, Result, Ok, Err, IsUtf8}
+use Rattle.std.proofs.Common.{MatchOption, sym, ap, ◌∙◌, subst}
 use Rattle.std.specs.Option.{SomeIff}
 use Rattle.std.specs.Result.{OkIff, result_ok}
 use Rattle.std.specs.Str.{chars, IsAscii}
@@ -10,7 +11,8 @@ use lib.Utf8.{encodes}
 use Rattle.icu_locale_core.specs.Locale.{Locale, IsLocale, IsPrinted, print}
 use Rattle.icu_locale_core.specs.ReadingLaws.{print-determines}
 use Rattle.icu_locale_core.specs.ShapeLaws.{print-IsAscii}
-use Rattle.icu_locale_fallback.specs.Cells.{locale_of, IsLocaleOf, IsLocaleOfNone, PrintsAs, PrintsNone}
+use Rattle.icu_locale_fallback.specs.Cells.{locale_of, IsLocaleOf, IsLocaleOfNone, PrintsAs}
+use Rattle.icu_locale_fallback.specs.Cells.{PrintsNone}
 use Rattle.icu_locale_fallback.specs.Triple.{Triple}
 
 -- the bytes of a text that is seen as ASCII characters
@@ -23,7 +25,8 @@ pub characters_of : (text cell : List ℕ) → chars text ≡ cell → IsAscii t
 characters_of text cell is ascii = sym (chars-IsAscii text ascii) ∙ is
 
 -- a subtag that is read from a cell is that of its characters
-module _ (Shape : List ℕ → Type 0) (is_ascii : (text : List ℕ) → Shape text → IsAscii text) {E : Type 0} where
+module _ (Shape : List ℕ → Type 0)
+    (is_ascii : (text : List ℕ) → Shape text → IsAscii text) {E : Type 0} where
   pub subtag_of_cell : (read : Result (List ℕ) E) (text cell : List ℕ) → IsUtf8 text
       → chars text ≡ cell → OkIff read (Shape text) text
       → SomeIff (result_ok read) (Shape cell) cell

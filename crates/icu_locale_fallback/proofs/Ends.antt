@@ -2,7 +2,9 @@
 -- entries. Up to the first repeat the parent steps leave distinct keys, so there are at most p;
 -- between two region steps stands a parent step, so there are at most p + 1; and only these
 -- steps bring a variant back.
-use Rattle.std.proofs.Common.{◌≡◌, ◌≢◌, ℕ, zero, suc, ◌+◌, ◌-◌, ◌*◌, ◌<◌, ◌≤◌, true, cond, List, [], ◌∷◌, length, Option, Some, None, is_some, refl, sym, ap, ◌∙◌, subst, ◌⊎◌, inl, inr, arith, below_more}
+use Rattle.std.proofs.Common.{◌≡◌, ◌≢◌, ℕ, zero, suc, ◌+◌, ◌-◌, ◌*◌, ◌<◌, ◌≤◌, true, cond, List, []}
+use Rattle.std.proofs.Common.{◌∷◌, length, Option, Some, None, is_some, refl, sym, ap, ◌∙◌, subst}
+use Rattle.std.proofs.Common.{◌⊎◌, inl, inr, arith, below_more}
 use Rattle.std.proofs.Math.Numerals.{sub-one}
 use Rattle.std.specs.FinMap as map
 use Rattle.icu_locale_core.specs.Locale.{Locale, unknown}
@@ -16,7 +18,9 @@ use Rattle.icu_locale_fallback.specs.Walk.{brings_back}
 use Rattle.icu_locale_fallback.proofs.TripleOrder.{one_or_other}
 use Rattle.icu_locale_fallback.specs.Rows.{Misses, AreDistinct}
 use Rattle.icu_locale_fallback.proofs.Pigeonhole.{AreKeys, no_longer}
-use Rattle.icu_locale_fallback.proofs.Rules.{Applies, at_unknown, with_subdivision, with_variant, with_parent, with_region, with_language, applies, drops_to_unknown}
+use Rattle.icu_locale_fallback.proofs.Rules.{Applies, at_unknown, with_subdivision, with_variant}
+use Rattle.icu_locale_fallback.proofs.Rules.{with_parent, with_region, with_language, applies}
+use Rattle.icu_locale_fallback.proofs.Rules.{drops_to_unknown}
 
 -- 1 where there is a subtag, else 0
 abbrev has : Option (List ℕ) → ℕ
@@ -59,7 +63,8 @@ module _ (F : Tables) (l : Locale) where
 
   -- step k is a parent or region step, to the triple of an earlier point
   abbrev pub RepeatsAt : ℕ → Type 0
-  RepeatsAt k = (brings_back (rule Language F (point (k - 1)).locale) ≡ true) × ((i : ℕ) × (i < k) × (triple k ≡ triple i))
+  RepeatsAt k = (brings_back (rule Language F (point (k - 1)).locale) ≡ true)
+      × ((i : ℕ) × (i < k) × (triple k ≡ triple i))
 
   -- the walk has ended or repeated at some step up to k
   abbrev pub Stopped : ℕ → Type 0
@@ -108,9 +113,12 @@ module _ (F : Tables) (l : Locale) where
   advance k r is (at_unknown e) to run = inl (k, omega arith, inl e)
   advance k r is (with_subdivision s) to run =
       let same : triple (suc k) ≡ triple k = ap (λ p. triple_of p.locale) to in
-      let none : has (point (suc k)).locale.subdivision ≡ 0 = ap (λ p. has p.locale.subdivision) to in
-      let variant : has (point (suc k)).locale.variant ≡ has (point k).locale.variant = ap (λ p. has p.locale.variant) to in
-      let region : has (point (suc k)).locale.region ≡ has (point k).locale.region = ap (λ p. has p.locale.region) to in
+      let none : has (point (suc k)).locale.subdivision ≡ 0 =
+      ap (λ p. has p.locale.subdivision) to in
+      let variant : has (point (suc k)).locale.variant ≡ has (point k).locale.variant =
+      ap (λ p. has p.locale.variant) to in
+      let region : has (point (suc k)).locale.region ≡ has (point k).locale.region =
+      ap (λ p. has p.locale.region) to in
       let had : has (point k).locale.subdivision ≡ 1 = ap (λ b. cond b 1 0) s in
       let steps_now = run.steps in
       let between_now = run.between in
@@ -126,9 +134,11 @@ module _ (F : Tables) (l : Locale) where
       })
   advance k r is (with_variant s v) to run =
       let same : triple (suc k) ≡ triple k = ap (λ p. triple_of p.locale) to in
-      let subdivision : has (point (suc k)).locale.subdivision ≡ has (point k).locale.subdivision = ap (λ p. has p.locale.subdivision) to in
+      let subdivision : has (point (suc k)).locale.subdivision ≡ has (point k).locale.subdivision =
+      ap (λ p. has p.locale.subdivision) to in
       let none : has (point (suc k)).locale.variant ≡ 0 = ap (λ p. has p.locale.variant) to in
-      let region : has (point (suc k)).locale.region ≡ has (point k).locale.region = ap (λ p. has p.locale.region) to in
+      let region : has (point (suc k)).locale.region ≡ has (point k).locale.region =
+      ap (λ p. has p.locale.region) to in
       let had : has (point k).locale.variant ≡ 1 = ap (λ b. cond b 1 0) v in
       let steps_now = run.steps in
       let between_now = run.between in
@@ -146,7 +156,8 @@ module _ (F : Tables) (l : Locale) where
       elim (earlier_or_none triple (triple (suc k)) (suc k)) [
         | inl earlier ↦ inl (suc k, omega arith, inr (rw sub-one (ap brings_back is), earlier))
         | inr new ↦
-            let subdivision : has (point (suc k)).locale.subdivision ≡ 0 = ap (λ p. has p.locale.subdivision) to ∙ ap has s in
+            let subdivision : has (point (suc k)).locale.subdivision ≡ 0 =
+            ap (λ p. has p.locale.subdivision) to ∙ ap has s in
             let variant = has_le (point (suc k)).locale.variant in
             let region = has_le (point (suc k)).locale.region in
             let steps_now = run.steps in
@@ -156,7 +167,11 @@ module _ (F : Tables) (l : Locale) where
               regions = run.regions;
               distinct = (run.here, run.distinct);
               rows = (ap is_some row, run.rows);
-              here = (new k (omega arith), misses_earlier (suc k) (triple (suc k)) new run.keys (later k run.keys run.seen));
+              here = (
+                new k (omega arith),
+                misses_earlier (suc k) (triple (suc k)) new run.keys
+                    (later k run.keys run.seen),
+              );
               seen = ((k, omega arith, refl), later k run.keys run.seen);
               steps = omega arith;
               between = omega arith;
@@ -166,7 +181,8 @@ module _ (F : Tables) (l : Locale) where
       elim (earlier_or_none triple (triple (suc k)) (suc k)) [
         | inl earlier ↦ inl (suc k, omega arith, inr (rw sub-one (ap brings_back is), earlier))
         | inr new ↦
-            let subdivision : has (point (suc k)).locale.subdivision ≡ 0 = ap (λ p. has p.locale.subdivision) to ∙ ap has s in
+            let subdivision : has (point (suc k)).locale.subdivision ≡ 0 =
+            ap (λ p. has p.locale.subdivision) to ∙ ap has s in
             let variant = has_le (point (suc k)).locale.variant in
             let none : has (point (suc k)).locale.region ≡ 0 = ap (λ p. has p.locale.region) to in
             let had : has (point k).locale.region ≡ 1 = ap (λ b. cond b 1 0) region in
@@ -177,14 +193,19 @@ module _ (F : Tables) (l : Locale) where
               regions = run.regions + 1;
               distinct = run.distinct;
               rows = run.rows;
-              here = misses_earlier (suc k) (triple (suc k)) new run.keys (later k run.keys run.seen);
+              here =
+                  misses_earlier (suc k) (triple (suc k)) new run.keys (later k run.keys run.seen);
               seen = later k run.keys run.seen;
               steps = omega arith;
               between = omega arith;
             })
       ]
   advance k r is (with_language s v g) to run =
-      inl (suc k, omega arith, inl (ap (λ p. p.locale) to ∙ drops_to_unknown F first (point k) s v g))
+      inl (
+        suc k,
+        omega arith,
+        inl (ap (λ p. p.locale) to ∙ drops_to_unknown F first (point k) s v g),
+      )
 
   -- a walk that has stopped has stopped a step later
   longer : (k : ℕ) → Stopped k → Stopped (suc k)
@@ -209,7 +230,8 @@ module _ (F : Tables) (l : Locale) where
   run_from (suc k) =
       elim (run_from k) [
         | inl stop ↦ inl (longer k stop)
-        | inr run ↦ advance k (rule Language F (point k).locale) refl (applies F (point k).locale) (point-suc k) run
+        | inr run ↦ advance k (rule Language F (point k).locale) refl (applies F (point k).locale)
+            (point-suc k) run
       ]
 
   -- a run is too short for so many steps

@@ -1,15 +1,24 @@
 -- Two faults of the same rows, other than want of memory, are one.
-use Rattle.std.proofs.Common.{◌≡◌, ◌≢◌, ℕ, zero, suc, ◌<◌, List, [], ◌∷◌, take, Some, refl, sym, ap, ◌∙◌, subst, inl, inr, arith}
+use Rattle.std.proofs.Common.{◌≡◌, ◌≢◌, ℕ, zero, suc, ◌<◌, List, [], ◌∷◌, take, Some, refl, sym, ap}
+use Rattle.std.proofs.Common.{◌∙◌, subst, inl, inr, arith}
 use Rattle.std.specs.List.{slice_get}
 use lib.Seq.{take-take}
 use Rattle.std.proofs.lemmas.Bool.{cases_lt}
 use Rattle.writeable_core.specs.declared.text.TextRow.{TextRow}
 use Rattle.icu_locale_fallback.specs.declared.rows.FallbackRows.{FallbackRows}
 use Rattle.icu_locale_fallback.specs.declared.rows.TableError.{TableError}
-use Rattle.icu_locale_fallback.specs.declared.rows.TableError.TheVariants.{DuplicateKey, BadKey, BadValue, NoMemory}
-use Rattle.icu_locale_fallback.specs.Faults.{IsFaultOf, IsLikelyFault, in_language, in_language_script, in_language_region, IsFirstFault, in_likely, in_parents}
-use Rattle.icu_locale_fallback.specs.Rows.{AreSound, HasEarlierKey, LanguageKey, LikelyValue, LanguageScriptKey, RegionValue, LanguageRegionKey, ScriptValue, ChildKey, ParentValue}
-use Rattle.icu_locale_fallback.proofs.RowLaws.{no_fault, no_likely_fault, language_key, likely_value, language_script_key, region_value, language_region_key, script_value, child_key, parent_value}
+use Rattle.icu_locale_fallback.specs.declared.rows.TableError.TheVariants.{DuplicateKey, BadKey}
+use Rattle.icu_locale_fallback.specs.declared.rows.TableError.TheVariants.{BadValue, NoMemory}
+use Rattle.icu_locale_fallback.specs.Faults.{IsFaultOf, IsLikelyFault, in_language}
+use Rattle.icu_locale_fallback.specs.Faults.{in_language_script, in_language_region, IsFirstFault}
+use Rattle.icu_locale_fallback.specs.Faults.{in_likely, in_parents}
+use Rattle.icu_locale_fallback.specs.Rows.{AreSound, HasEarlierKey, LanguageKey, LikelyValue}
+use Rattle.icu_locale_fallback.specs.Rows.{LanguageScriptKey, RegionValue, LanguageRegionKey}
+use Rattle.icu_locale_fallback.specs.Rows.{ScriptValue, ChildKey, ParentValue}
+use Rattle.icu_locale_fallback.proofs.RowLaws.{no_fault, no_likely_fault, language_key}
+use Rattle.icu_locale_fallback.proofs.RowLaws.{likely_value, language_script_key, region_value}
+use Rattle.icu_locale_fallback.proofs.RowLaws.{language_region_key, script_value, child_key}
+use Rattle.icu_locale_fallback.proofs.RowLaws.{parent_value}
 
 -- a row of the first rows
 get_less : (i n : ℕ) (rows : List TextRow) → i < n → slice_get (take n rows) i ≡ slice_get rows i
@@ -25,7 +34,8 @@ row_of (BadKey table i) = i
 row_of (BadValue table i) = i
 row_of NoMemory = 0
 
-module _ {K X : Type 0} (key : TextRow → K → Type 0) (value : TextRow → X → Type 0) (number : ℕ) where
+module _ {K X : Type 0} (key : TextRow → K → Type 0) (value : TextRow → X → Type 0)
+    (number : ℕ) where
   -- a fault is one of the rows up to its own
   among : (n : ℕ) (rows : List TextRow) (e : TableError) → row_of e < n
       → IsFaultOf key value number rows e
@@ -55,7 +65,9 @@ module _ {K X : Type 0} (key : TextRow → K → Type 0) (value : TextRow → X 
           before = subst (AreSound key value) (sym same) fault.before;
           row = fault.row;
           row_is = get_less i n rows lt ∙ fault.row_is;
-          fault_is = subst (λ earlier. HasEarlierKey key value earlier fault.row) (sym same) fault.fault_is;
+          fault_is =
+              subst (λ earlier. HasEarlierKey key value earlier fault.row)
+              (sym same) fault.fault_is;
         },
       )
   among n rows NoMemory lt fault = tt
@@ -80,9 +92,12 @@ module _ {K X : Type 0} (key : TextRow → K → Type 0) (value : TextRow → X 
   same_row : (rows : List TextRow) (e f : TableError) → e ≢ NoMemory → f ≢ NoMemory
       → row_of e ≡ row_of f
       → IsFaultOf key value number rows e → IsFaultOf key value number rows f → e ≡ f
-  same_row rows (BadKey t i) (BadKey u j) n m same (p, a) (q, b) = λ k. BadKey ((p ∙ sym q) k) (same k)
-  same_row rows (BadValue t i) (BadValue u j) n m same (p, a) (q, b) = λ k. BadValue ((p ∙ sym q) k) (same k)
-  same_row rows (DuplicateKey t i) (DuplicateKey u j) n m same (p, a) (q, b) = λ k. DuplicateKey ((p ∙ sym q) k) (same k)
+  same_row rows (BadKey t i) (BadKey u j) n m same (p, a) (q, b) =
+      λ k. BadKey ((p ∙ sym q) k) (same k)
+  same_row rows (BadValue t i) (BadValue u j) n m same (p, a) (q, b) =
+      λ k. BadValue ((p ∙ sym q) k) (same k)
+  same_row rows (DuplicateKey t i) (DuplicateKey u j) n m same (p, a) (q, b) =
+      λ k. DuplicateKey ((p ∙ sym q) k) (same k)
   same_row rows (BadKey t i) (BadValue u j) n m same (p, a) (q, b) =
       let row = one_row rows j i b.row a.row (sym same) b.row_is a.row_is in
       absurd (a.fault_is b.fault_is.0.0 (subst (λ r. key r b.fault_is.0.0) row b.fault_is.0.1))
@@ -113,7 +128,9 @@ module _ {K X : Type 0} (key : TextRow → K → Type 0) (value : TextRow → X 
         → row_of e < row_of f
         → IsFaultOf key value number rows e → IsFaultOf key value number rows f → ⊥
     not_before rows e f n m lt a b =
-        n (no_fault key value one_key one_value number (take (row_of f) rows) (sound_before rows f m b) e
+        n
+        (no_fault key value one_key one_value number (take (row_of f) rows)
+        (sound_before rows f m b) e
         (among (row_of f) rows e lt a))
 
     -- two faults of a table are one
@@ -142,11 +159,17 @@ module _ (rows : FallbackRows) (e f : TableError) (n : e ≢ NoMemory) (m : f �
   one_likely_fault (in_language_script sound a) (in_language_script before b) =
       one_fault LanguageScriptKey RegionValue 1 language_script_key region_value _ e f n m a b
   one_likely_fault (in_language_script sound a) (in_language_region before behind b) =
-      absurd (n (no_fault LanguageScriptKey RegionValue language_script_key region_value 1 _ behind e a))
+      absurd
+      (n
+      (no_fault LanguageScriptKey RegionValue language_script_key region_value 1
+      _ behind e a))
   one_likely_fault (in_language_region before behind a) (in_language b) =
       absurd (m (no_fault LanguageKey LikelyValue language_key likely_value 0 _ before f b))
   one_likely_fault (in_language_region before behind a) (in_language_script sound b) =
-      absurd (m (no_fault LanguageScriptKey RegionValue language_script_key region_value 1 _ behind f b))
+      absurd
+      (m
+      (no_fault LanguageScriptKey RegionValue language_script_key region_value 1
+      _ behind f b))
   one_likely_fault (in_language_region sound too a) (in_language_region before behind b) =
       one_fault LanguageRegionKey ScriptValue 2 language_region_key script_value _ e f n m a b
 

@@ -1,5 +1,6 @@
 -- A list of distinct keys of a table is no longer than the table.
-use Rattle.std.proofs.Common.{◌≡◌, zero, suc, ◌+◌, ◌-◌, ◌<◌, ◌≤◌, false, cond, List, [], ◌∷◌, length, None, IsSome, is_some, refl, sym, ap, ◌∙◌, arith}
+use Rattle.std.proofs.Common.{◌≡◌, zero, suc, ◌+◌, ◌-◌, ◌<◌, ◌≤◌, false, cond, List, [], ◌∷◌}
+use Rattle.std.proofs.Common.{length, None, IsSome, is_some, refl, sym, ap, ◌∙◌, arith}
 use Rattle.std.specs.FinMap as map
 use Rattle.std.specs.Ordering.{eq_by_cmp}
 use Rattle.icu_locale_fallback.specs.Rows.{Misses, AreDistinct}
@@ -17,7 +18,8 @@ module _ {X : Type 0} where
       → 0 < map.len table
   some_entry table x h =
       elim (map.len table) as (λ n. map.len table ≡ n → 0 < n) [
-        | zero ↦ λ e. let none : map.get table x ≡ None = ap (λ t. map.get t x) (map.empty_of_len table e) ∙ map.get-empty triple_cmp x in
+        | zero ↦ λ e. let none : map.get table x ≡ None =
+            ap (λ t. map.get t x) (map.empty_of_len table e) ∙ map.get-empty triple_cmp x in
             let lost : is_some (map.get table x) ≡ false = ap is_some none in cc
         | suc n ↦ λ e. omega arith
       ] refl
@@ -28,7 +30,8 @@ module _ {X : Type 0} where
   one_less table x h =
       let there = some_entry table x h in
       let left : map.len (map.remove table x) ≡ map.len table - 1 =
-      map.len-remove triple_cmp_total table x ∙ ap (λ b. cond b (map.len table - 1) (map.len table)) h in
+      map.len-remove triple_cmp_total table x
+      ∙ ap (λ b. cond b (map.len table - 1) (map.len table)) h in
       omega arith
 
   -- a key stays where another one is taken out

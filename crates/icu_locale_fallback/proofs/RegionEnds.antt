@@ -1,10 +1,12 @@
 -- A walk in the region priority is at the unknown locale after six steps.
-use Rattle.std.proofs.Common.{◌≡◌, ℕ, zero, suc, ◌+◌, ◌-◌, ◌≤◌, Bool, true, ◌||◌, cond, List, Option, is_some, arith}
+use Rattle.std.proofs.Common.{◌≡◌, ℕ, zero, suc, ◌+◌, ◌-◌, ◌≤◌, Bool, true, ◌||◌, cond, List}
+use Rattle.std.proofs.Common.{Option, is_some, arith}
 use Rattle.icu_locale_core.specs.Locale.{Locale, unknown}
 use Rattle.icu_locale_fallback.specs.Normal.{first_script}
 use Rattle.icu_locale_fallback.specs.declared.config.LocaleFallbackPriority.TheVariants.{Region}
 use Rattle.icu_locale_fallback.specs.Tables.{Tables}
-use Rattle.icu_locale_fallback.specs.Steps.{Reached, is_unknown, step_of, has_language, start, reached, region_at}
+use Rattle.icu_locale_fallback.specs.Steps.{Reached, is_unknown, step_of, has_language, start}
+use Rattle.icu_locale_fallback.specs.Steps.{reached, region_at}
 use Rattle.icu_locale_fallback.proofs.Rules.{unknown_of}
 
 -- 1 where the test holds, else 0
@@ -14,10 +16,12 @@ count b = cond b 1 0
 -- how many steps a walk from here has at most
 abbrev rank : Reached → ℕ
 rank r =
-    count (is_some r.locale.subdivision) + count (is_some r.locale.variant) + count (is_some r.locale.region)
+    count (is_some r.locale.subdivision) + count (is_some r.locale.variant)
+    + count (is_some r.locale.region)
     + cond (has_language r.locale || is_some r.locale.script)
     (1 + cond (is_some r.locale.region)
-    (count (is_some r.locale.subdivision || is_some r.kept_subdivision) + count (is_some r.locale.variant || is_some r.kept_variant)) 0) 0
+    (count (is_some r.locale.subdivision || is_some r.kept_subdivision)
+    + count (is_some r.locale.variant || is_some r.kept_variant)) 0) 0
 
 -- each step takes one off
 falls : (F : Tables) (first : Option (List ℕ)) (r : Reached)

@@ -1,7 +1,8 @@
 -- Where the walk repeats, nothing new comes. A parent or region step leaves a point that its
 -- triple determines: the variant of the start is back, and its subdivision is kept. So such a step
 -- to a triple that was there before leads to a point that was there before.
-use Rattle.std.proofs.Common.{◌≡◌, ℕ, zero, suc, ◌+◌, ◌-◌, ◌<◌, ◌≤◌, true, false, List, Option, None, is_some, refl, sym, ap, ◌∙◌, subst, ◌⊎◌, inl, inr, arith}
+use Rattle.std.proofs.Common.{◌≡◌, ℕ, zero, suc, ◌+◌, ◌-◌, ◌<◌, ◌≤◌, true, false, List, Option}
+use Rattle.std.proofs.Common.{None, is_some, refl, sym, ap, ◌∙◌, subst, ◌⊎◌, inl, inr, arith}
 use Rattle.std.proofs.Math.Numerals.{sub-one}
 use Rattle.std.proofs.Common.{zero-add, suc-add}
 use Rattle.std.proofs.lemmas.Bool.{false≢true, cases_lt}
@@ -14,7 +15,9 @@ use Rattle.icu_locale_fallback.specs.Triple.{Triple, triple_of}
 use Rattle.icu_locale_fallback.specs.Tables.{Tables}
 use Rattle.icu_locale_fallback.specs.Steps.{Reached, reached, rule, start, step_by}
 use Rattle.icu_locale_fallback.specs.Walk.{brings_back, next}
-use Rattle.icu_locale_fallback.proofs.Rules.{Applies, at_unknown, with_subdivision, with_variant, with_parent, with_region, with_language, applies, drops_alone, drops_to_unknown}
+use Rattle.icu_locale_fallback.proofs.Rules.{Applies, at_unknown, with_subdivision, with_variant}
+use Rattle.icu_locale_fallback.proofs.Rules.{with_parent, with_region, with_language, applies}
+use Rattle.icu_locale_fallback.proofs.Rules.{drops_alone, drops_to_unknown}
 use Rattle.icu_locale_fallback.proofs.Ends.{RepeatsAt}
 
 -- the same parts make the same point
@@ -24,7 +27,14 @@ same_point : (p q : Reached) → triple_of p.locale ≡ triple_of q.locale
     → p.kept_region ≡ q.kept_region → p ≡ q
 same_point p q t v d kv kd kr i =
     record {
-      locale = record { language = (t i).language; script = (t i).script; region = (t i).region; variant = v i; subdivision = d i };
+      locale =
+          record {
+            language = (t i).language;
+            script = (t i).script;
+            region = (t i).region;
+            variant = v i;
+            subdivision = d i;
+          };
       kept_variant = kv i;
       kept_subdivision = kd i;
       kept_region = kr i;
@@ -71,7 +81,14 @@ module _ (F : Tables) (l : Locale) where
   abbrev arrival : Triple → Reached
   arrival t =
       record {
-        locale = record { language = t.language; script = t.script; region = t.region; variant = begin.variant; subdivision = None };
+        locale =
+            record {
+              language = t.language;
+              script = t.script;
+              region = t.region;
+              variant = begin.variant;
+              subdivision = None;
+            };
         kept_variant = None;
         kept_subdivision = begin.subdivision;
         kept_region = None;
@@ -102,9 +119,17 @@ module _ (F : Tables) (l : Locale) where
   carries_on p r (with_variant s v) h =
       record { variant = dropped _ _ _ v h.variant; subdivision = h.subdivision; region = h.region }
   carries_on p r (with_parent s v row) h =
-      record { variant = inl (kept_is _ _ _ v h.variant, refl); subdivision = h.subdivision; region = h.region }
+      record {
+        variant = inl (kept_is _ _ _ v h.variant, refl);
+        subdivision = h.subdivision;
+        region = h.region;
+      }
   carries_on p r (with_region s v region) h =
-      record { variant = inl (kept_is _ _ _ v h.variant, refl); subdivision = h.subdivision; region = h.region }
+      record {
+        variant = inl (kept_is _ _ _ v h.variant, refl);
+        subdivision = h.subdivision;
+        region = h.region;
+      }
   carries_on p r (with_language s v g) h =
       subst Carries (sym (drops_alone F first p g))
       (record { variant = h.variant; subdivision = h.subdivision; region = h.region })
@@ -116,7 +141,8 @@ module _ (F : Tables) (l : Locale) where
       (record { variant = inl (refl, refl); subdivision = inl (refl, refl); region = refl })
   carries (suc k) =
       subst Carries (sym (point-suc k))
-      (carries_on (point k) (rule Language F (point k).locale) (applies F (point k).locale) (carries k))
+      (carries_on (point k) (rule Language F (point k).locale)
+      (applies F (point k).locale) (carries k))
 
   -- a parent or region step arrives
   arrives_by : (p : Reached) (r : Rule) → Applies F p.locale r → Carries p → brings_back r ≡ true
@@ -137,7 +163,8 @@ module _ (F : Tables) (l : Locale) where
       → point (suc k) ≡ arrival (triple (suc k))
   arrives k back =
       subst (λ p. p ≡ arrival (triple_of p.locale)) (sym (point-suc k))
-      (arrives_by (point k) (rule Language F (point k).locale) (applies F (point k).locale) (carries k) back)
+      (arrives_by (point k) (rule Language F (point k).locale) (applies F (point k).locale)
+      (carries k) back)
 
   -- the unknown locale is never left
   stays_unknown : (j n : ℕ) → (point j).locale ≡ unknown → (point (n + j)).locale ≡ unknown
@@ -145,19 +172,24 @@ module _ (F : Tables) (l : Locale) where
   stays_unknown j (suc n) e =
       let before = stays_unknown j n e in
       let rest : rule Language F (point (n + j)).locale ≡ Stay = ap (rule Language F) before in
-      rw suc-add (ap (λ p. p.locale) (point-suc (n + j)) ∙ ap (λ r. (behind (n + j) r).locale) rest ∙ before)
+      rw suc-add
+      (ap (λ p. p.locale) (point-suc (n + j))
+      ∙ ap (λ r. (behind (n + j) r).locale) rest ∙ before)
 
   -- the point that a triple arrives at is among those before step k
   abbrev HasArrival : ℕ → ℕ → Type 0
   HasArrival k j = ((i : ℕ) × (i < k) × (point i ≡ arrival (triple j)))
 
   -- a step that brings the variant back is not behind the unknown locale
-  not_behind_unknown : (n : ℕ) → brings_back (rule Language F (point n).locale) ≡ true → (j : ℕ) → j ≤ n
+  not_behind_unknown : (n : ℕ) → brings_back (rule Language F (point n).locale) ≡ true
+      → (j : ℕ) → j ≤ n
       → (point j).locale ≡ unknown → ⊥
   not_behind_unknown n back j below e =
       let whole : (n - j) + j ≡ n = omega arith in
-      let there : (point n).locale ≡ unknown = subst (λ x. (point x).locale ≡ unknown) whole (stays_unknown j (n - j) e) in
-      let rest : brings_back (rule Language F (point n).locale) ≡ false = ap (λ x. brings_back (rule Language F x)) there in
+      let there : (point n).locale ≡ unknown =
+      subst (λ x. (point x).locale ≡ unknown) whole (stays_unknown j (n - j) e) in
+      let rest : brings_back (rule Language F (point n).locale) ≡ false =
+      ap (λ x. brings_back (rule Language F x)) there in
       false≢true (sym rest ∙ back)
 
   -- a start without a subdivision is an arrival
@@ -167,7 +199,8 @@ module _ (F : Tables) (l : Locale) where
     omega arith,
     same_point (point zero) (arrival (triple zero)) refl (ap (λ p. p.locale.variant) point-zero) s
         (ap (λ p. p.kept_variant) point-zero)
-        (ap (λ p. p.kept_subdivision) point-zero ∙ sym s ∙ ap (λ p. p.locale.subdivision) point-zero)
+        (ap (λ p. p.kept_subdivision) point-zero ∙ sym s
+        ∙ ap (λ p. p.locale.subdivision) point-zero)
         (ap (λ p. p.kept_region) point-zero),
   )
 
@@ -175,12 +208,15 @@ module _ (F : Tables) (l : Locale) where
   start_arrives : (n : ℕ) → brings_back (rule Language F (point n).locale) ≡ true → (r : Rule)
       → rule Language F (point zero).locale ≡ r → Applies F (point zero).locale r
       → point (suc zero) ≡ behind zero r → HasArrival (suc n) zero
-  start_arrives n back r is (at_unknown e) to = absurd (not_behind_unknown n back zero (omega arith) e)
-  start_arrives zero back r is (with_subdivision s) to = absurd (false≢true (sym (ap brings_back is) ∙ back))
+  start_arrives n back r is (at_unknown e) to =
+      absurd (not_behind_unknown n back zero (omega arith) e)
+  start_arrives zero back r is (with_subdivision s) to =
+      absurd (false≢true (sym (ap brings_back is) ∙ back))
   start_arrives (suc n) back r is (with_subdivision s) to = (
     suc zero,
     omega arith,
-    to ∙ same_point (behind zero r) (arrival (triple zero)) refl (ap (λ p. p.locale.variant) point-zero) refl
+    to ∙ same_point (behind zero r) (arrival (triple zero)) refl
+        (ap (λ p. p.locale.variant) point-zero) refl
         (ap (λ p. p.kept_variant) point-zero) (ap (λ p. p.locale.subdivision) point-zero)
         (ap (λ p. p.kept_region) point-zero),
   )
@@ -194,24 +230,34 @@ module _ (F : Tables) (l : Locale) where
   same_arrival k j same (i, below, is) = (i, below, is ∙ ap arrival (sym same))
 
   -- the triple of a later point is arrived at too
-  next_arrives : (n : ℕ) → brings_back (rule Language F (point n).locale) ≡ true → (j : ℕ) → suc j ≤ n
+  next_arrives : (n : ℕ) → brings_back (rule Language F (point n).locale) ≡ true
+      → (j : ℕ) → suc j ≤ n
       → (r : Rule) → rule Language F (point j).locale ≡ r → Applies F (point j).locale r
       → point (suc j) ≡ behind j r → HasArrival (suc n) j → HasArrival (suc n) (suc j)
-  next_arrives n back j below r is (at_unknown e) to h = absurd (not_behind_unknown n back j (omega arith) e)
-  next_arrives n back j below r is (with_subdivision s) to h = same_arrival (suc n) j (ap (λ p. triple_of p.locale) to) h
-  next_arrives n back j below r is (with_variant s v) to h = same_arrival (suc n) j (ap (λ p. triple_of p.locale) to) h
-  next_arrives n back j below r is (with_parent s v row) to h = (suc j, omega arith, arrives j (ap brings_back is))
-  next_arrives n back j below r is (with_region s v region) to h = (suc j, omega arith, arrives j (ap brings_back is))
+  next_arrives n back j below r is (at_unknown e) to h =
+      absurd (not_behind_unknown n back j (omega arith) e)
+  next_arrives n back j below r is (with_subdivision s) to h =
+      same_arrival (suc n) j (ap (λ p. triple_of p.locale) to) h
+  next_arrives n back j below r is (with_variant s v) to h =
+      same_arrival (suc n) j (ap (λ p. triple_of p.locale) to) h
+  next_arrives n back j below r is (with_parent s v row) to h =
+      (suc j, omega arith, arrives j (ap brings_back is))
+  next_arrives n back j below r is (with_region s v region) to h =
+      (suc j, omega arith, arrives j (ap brings_back is))
   next_arrives n back j below r is (with_language s v g) to h =
-      absurd (not_behind_unknown n back (suc j) below (ap (λ p. p.locale) to ∙ drops_to_unknown F first (point j) s v g))
+      absurd
+      (not_behind_unknown n back (suc j) below
+      (ap (λ p. p.locale) to ∙ drops_to_unknown F first (point j) s v g))
 
   -- so is that of each point before step k
   has_arrival : (n : ℕ) → brings_back (rule Language F (point n).locale) ≡ true → (j : ℕ) → j ≤ n
       → HasArrival (suc n) j
   has_arrival n back zero below =
-      start_arrives n back (rule Language F (point zero).locale) refl (applies F (point zero).locale) (point-suc zero)
+      start_arrives n back (rule Language F (point zero).locale) refl
+      (applies F (point zero).locale) (point-suc zero)
   has_arrival n back (suc j) below =
-      next_arrives n back j below (rule Language F (point j).locale) refl (applies F (point j).locale) (point-suc j) (has_arrival n back j (omega arith))
+      next_arrives n back j below (rule Language F (point j).locale) refl
+      (applies F (point j).locale) (point-suc j) (has_arrival n back j (omega arith))
 
   -- a point before step k
   abbrev IsBefore : ℕ → Reached → Type 0

@@ -1,5 +1,6 @@
 -- Rows make one set of tables at most, and where none is faulty there is no fault.
-use Rattle.std.proofs.Common.{◌≡◌, ℕ, zero, suc, ◌<◌, List, [], ◌∷◌, length, map, Option, Some, None, Ordering, refl, sym, ap, ◌∙◌, subst, arith}
+use Rattle.std.proofs.Common.{◌≡◌, ℕ, zero, suc, ◌<◌, List, [], ◌∷◌, length, map, Option, Some}
+use Rattle.std.proofs.Common.{None, Ordering, refl, sym, ap, ◌∙◌, subst, arith}
 use Rattle.std.specs.FinMap as finite
 use Rattle.std.specs.List.{AllZip, slice_get}
 use Rattle.std.proofs.lemmas.Option.{slice_get_read}
@@ -8,10 +9,16 @@ use Rattle.icu_locale_core.specs.ReadingLaws.{print-determines}
 use Rattle.writeable_core.specs.declared.text.TextRow.{TextRow}
 use Rattle.icu_locale_fallback.specs.declared.rows.FallbackRows.{FallbackRows}
 use Rattle.icu_locale_fallback.specs.declared.rows.TableError.{TableError}
-use Rattle.icu_locale_fallback.specs.declared.rows.TableError.TheVariants.{DuplicateKey, BadKey, BadValue, NoMemory}
+use Rattle.icu_locale_fallback.specs.declared.rows.TableError.TheVariants.{DuplicateKey, BadKey}
+use Rattle.icu_locale_fallback.specs.declared.rows.TableError.TheVariants.{BadValue, NoMemory}
 use Rattle.icu_locale_fallback.specs.Cells.{PrintsAs, locale_of}
-use Rattle.icu_locale_fallback.specs.Faults.{IsFaultOf, IsLikelyFault, in_language, in_language_script, in_language_region, IsFirstFault, in_likely, in_parents, AreLikelyOf, AreLikelySound, AreRowsSound, AreTablesOf}
-use Rattle.icu_locale_fallback.specs.Rows.{Misses, AreDistinct, AreSound, IsTableOf, LanguageKey, LikelyValue, LanguageScriptKey, RegionValue, LanguageRegionKey, ScriptValue, ChildKey, ParentValue}
+use Rattle.icu_locale_fallback.specs.Faults.{IsFaultOf, IsLikelyFault, in_language}
+use Rattle.icu_locale_fallback.specs.Faults.{in_language_script, in_language_region, IsFirstFault}
+use Rattle.icu_locale_fallback.specs.Faults.{in_likely, in_parents, AreLikelyOf, AreLikelySound}
+use Rattle.icu_locale_fallback.specs.Faults.{AreRowsSound, AreTablesOf}
+use Rattle.icu_locale_fallback.specs.Rows.{Misses, AreDistinct, AreSound, IsTableOf, LanguageKey}
+use Rattle.icu_locale_fallback.specs.Rows.{LikelyValue, LanguageScriptKey, RegionValue}
+use Rattle.icu_locale_fallback.specs.Rows.{LanguageRegionKey, ScriptValue, ChildKey, ParentValue}
 use Rattle.icu_locale_fallback.specs.Tables.{Likely, LikelySubtags, Tables}
 use Rattle.icu_locale_fallback.specs.Triple.{Triple, triple_of}
 
@@ -50,10 +57,13 @@ module _ {K X : Type 0} (key : TextRow → K → Type 0) (value : TextRow → X 
       → (e : K × X) × (slice_get es i ≡ Some e) × Says row e
   said_at [] es i row said at = cc
   said_at (r ∷ rows) [] i row said at = absurd said
-  said_at (r ∷ rows) (e ∷ es) zero row said at = let is : r ≡ row = cc in (e, refl, subst (λ x. Says x e) is said.0)
+  said_at (r ∷ rows) (e ∷ es) zero row said at = let is : r ≡ row = cc in
+      (e, refl, subst (λ x. Says x e) is said.0)
   said_at (r ∷ rows) (e ∷ es) (suc i) row said at = said_at rows es i row said.1 at
 
-module _ {K X : Type 0} (key : TextRow → K → Type 0) (value : TextRow → X → Type 0) (one_key : (row : TextRow) (j k : K) → key row j → key row k → j ≡ k) (one_value : (row : TextRow) (v w : X) → value row v → value row w → v ≡ w) where
+module _ {K X : Type 0} (key : TextRow → K → Type 0) (value : TextRow → X → Type 0)
+    (one_key : (row : TextRow) (j k : K) → key row j → key row k → j ≡ k)
+    (one_value : (row : TextRow) (v w : X) → value row v → value row w → v ≡ w) where
   -- rows say one list of entries
   same_entries : (rows : List TextRow) (es fs : List (K × X))
       → AllZip (Says key value) rows es → AllZip (Says key value) rows fs → es ≡ fs
@@ -72,7 +82,9 @@ module _ {K X : Type 0} (key : TextRow → K → Type 0) (value : TextRow → X 
   pub same_table : {R : K → K → Ordering} (rows : List TextRow) (one other : finite.FinMap R X)
       → IsTableOf key value rows one → IsTableOf key value rows other → one ≡ other
   same_table rows one other h g =
-      h.table_is ∙ ap finite.from_entries (same_entries rows h.entries g.entries h.say.said g.say.said) ∙ sym g.table_is
+      h.table_is
+      ∙ ap finite.from_entries (same_entries rows h.entries g.entries h.say.said g.say.said)
+      ∙ sym g.table_is
 
   -- sound rows have no fault
   pub no_fault : (number : ℕ) (rows : List TextRow) → AreSound key value rows → (e : TableError)
@@ -89,7 +101,8 @@ module _ {K X : Type 0} (key : TextRow → K → Type 0) (value : TextRow → X 
       let earlier : j < i = omega arith in
       let inside : j < length rows = omega arith in
       let other_is : slice_get rows j ≡ Some other =
-      slice_get_read rows (length rows) j other refl inside (sym (sym (get_or-take i rows j other earlier) ∙ at_other)) in
+      slice_get_read rows (length rows) j other refl inside
+      (sym (sym (get_or-take i rows j other earlier) ∙ at_other)) in
       let (e, at, said) = said_at key value rows es i fault.row say.said fault.row_is in
       let (f, at_f, said_f) = said_at key value rows es j other say.said other_is in
       absurd (distinct_at es i j e f say.distinct earlier at at_f
@@ -127,7 +140,8 @@ script_value row v w a b = a.1 ∙ sym b.1
 -- a text is the printed one of one triple at most
 one_triple : (text : List ℕ) (j k : Triple) → PrintsAs text j → PrintsAs text k → j ≡ k
 one_triple text j k a b =
-    ap triple_of (print-determines (locale_of j) (locale_of k) a.shape b.shape (a.printed ∙ sym b.printed))
+    ap triple_of
+    (print-determines (locale_of j) (locale_of k) a.shape b.shape (a.printed ∙ sym b.printed))
 
 -- table 3: its key
 pub child_key : (row : TextRow) (j k : Triple) → ChildKey row j → ChildKey row k → j ≡ k
@@ -141,21 +155,33 @@ parent_value row = one_triple row.second
 same_likely : (rows : FallbackRows) (one other : LikelySubtags) → AreLikelyOf rows one
     → AreLikelyOf rows other → one ≡ other
 same_likely rows one other h g =
-    let language = same_table LanguageKey LikelyValue language_key likely_value _ _ _ h.language g.language in
-    let language_script = same_table LanguageScriptKey RegionValue language_script_key region_value _ _ _ h.language_script g.language_script in
-    let language_region = same_table LanguageRegionKey ScriptValue language_region_key script_value _ _ _ h.language_region g.language_region in
-    λ i. record { language = language i; language_script = language_script i; language_region = language_region i }
+    let language =
+    same_table LanguageKey LikelyValue language_key likely_value _ _ _ h.language g.language in
+    let language_script =
+    same_table LanguageScriptKey RegionValue language_script_key region_value _ _ _
+    h.language_script g.language_script in
+    let language_region =
+    same_table LanguageRegionKey ScriptValue language_region_key script_value _ _ _
+    h.language_region g.language_region in
+    λ i. record {
+      language = language i;
+      language_script = language_script i;
+      language_region = language_region i;
+    }
 
 -- rows make one fallbacker at most
 pub same_tables : (rows : FallbackRows) (one other : Tables) → AreTablesOf rows one
     → AreTablesOf rows other → one ≡ other
 same_tables rows one other h g =
     let likely = same_likely rows _ _ h.likely_are g.likely_are in
-    let parents = same_table ChildKey ParentValue child_key parent_value _ _ _ h.parents_are g.parents_are in
+    let parents =
+    same_table ChildKey ParentValue child_key parent_value _ _ _ h.parents_are g.parents_are in
     λ i. record { likely = likely i; parents = parents i }
 
 -- rows of which a table is are sound
-pub sound : {K X : Type 0} {key : TextRow → K → Type 0} {value : TextRow → X → Type 0} {R : K → K → Ordering} {rows : List TextRow} {table : finite.FinMap R X}
+pub sound :
+    {K X : Type 0} {key : TextRow → K → Type 0} {value : TextRow → X → Type 0} {R : K → K
+    → Ordering} {rows : List TextRow} {table : finite.FinMap R X}
     → IsTableOf key value rows table → AreSound key value rows
 sound h = (h.entries, h.say)
 
@@ -177,9 +203,11 @@ pub no_likely_fault : (rows : FallbackRows) (e : TableError) → AreLikelySound 
 no_likely_fault rows e h (in_language fault) =
     no_fault LanguageKey LikelyValue language_key likely_value 0 _ h.language e fault
 no_likely_fault rows e h (in_language_script before fault) =
-    no_fault LanguageScriptKey RegionValue language_script_key region_value 1 _ h.language_script e fault
+    no_fault LanguageScriptKey RegionValue language_script_key region_value 1 _
+    h.language_script e fault
 no_likely_fault rows e h (in_language_region before behind fault) =
-    no_fault LanguageRegionKey ScriptValue language_region_key script_value 2 _ h.language_region e fault
+    no_fault LanguageRegionKey ScriptValue language_region_key script_value 2 _
+    h.language_region e fault
 
 -- where no row is faulty there is no fault
 pub no_first_fault : (rows : FallbackRows) (e : TableError) → AreRowsSound rows

@@ -1,5 +1,7 @@
 -- A table that is filled row by row.
-use Rattle.std.proofs.Common.{◌≡◌, ℕ, zero, suc, ◌+◌, Bool, true, false, cond, List, [], ◌∷◌, ◌++◌, map, Option, Some, None, is_some, take, Ordering, refl, sym, ap, ◌∙◌, subst, arith}
+use Rattle.std.proofs.Common.{◌≡◌, ℕ, zero, suc, ◌+◌, Bool, true, false, cond, List, [], ◌∷◌, ◌++◌}
+use Rattle.std.proofs.Common.{map, Option, Some, None, is_some, take, Ordering, refl, sym, ap, ◌∙◌}
+use Rattle.std.proofs.Common.{subst, arith}
 use Rattle.std.specs.Cmp.{IsTotalOrder, Equal-is, tied_itself}
 use Rattle.std.specs.FinMap as finite
 use Rattle.std.specs.FinMap.{IsAntisymmetric}
@@ -29,7 +31,8 @@ module _ {K X : Type 0} where
   misses-push [] e x h other = (other, tt)
   misses-push (y ∷ es) e x h other = (h.0, misses-push es e x h.1 other)
 
-module _ {K X : Type 0} (key : TextRow → K → Type 0) (value : TextRow → X → Type 0) (R : K → K → Ordering) where
+module _ {K X : Type 0} (key : TextRow → K → Type 0) (value : TextRow → X → Type 0)
+    (R : K → K → Ordering) where
   -- no row makes the empty table
   pub no_rows : IsTableOf key value {R = R} [] finite.empty
   no_rows = record {
@@ -59,16 +62,21 @@ module _ {K X : Type 0} (key : TextRow → K → Type 0) (value : TextRow → X 
     one_more rows table row k v h key_is value_is fresh =
         let none : finite.find R k h.entries ≡ None =
         none_by_is_some (finite.find R k h.entries)
-        (ap is_some (sym (finite.get-from_entries total h.entries k) ∙ ap (λ t. finite.get t k) (sym h.table_is)) ∙ fresh) in
+        (ap is_some (sym (finite.get-from_entries total h.entries k)
+        ∙ ap (λ t. finite.get t k) (sym h.table_is)) ∙ fresh) in
         let longer : finite.len (finite.insert table k v) ≡ finite.len table + 1 =
-        finite.len-insert total table k v ∙ ap (λ b. cond b (finite.len table) (finite.len table + 1)) fresh in
+        finite.len-insert total table k v
+        ∙ ap (λ b. cond b (finite.len table) (finite.len table + 1)) fresh in
         record {
           entries = h.entries ++ (k, v) ∷ [];
           say = record {
-            said = all_zipped_more (λ row entry. key row entry.0 × value row entry.1) rows h.entries row (k, v) h.say.said (key_is, value_is);
+            said =
+                all_zipped_more (λ row entry. key row entry.0
+                × value row entry.1) rows h.entries row (k, v) h.say.said (key_is, value_is);
             distinct = distinct-push h.entries (k, v) none h.say.distinct;
           };
-          table_is = ap (λ t. finite.insert t k v) h.table_is ∙ sym (finite.from_entries_push total ties h.entries k v none);
+          table_is = ap (λ t. finite.insert t k v) h.table_is
+              ∙ sym (finite.from_entries_push total ties h.entries k v none);
           len = longer ∙ ap (λ n. n + 1) h.len ∙ sym (length_push rows row);
         }
 
@@ -80,11 +88,14 @@ module _ {K X : Type 0} (key : TextRow → K → Type 0) (value : TextRow → X 
     found_row [] (e ∷ entries) k said found = absurd said
     found_row (row ∷ rows) [] k said found = absurd said
     found_row (row ∷ rows) (e ∷ entries) k said found =
-        elim (eq_by_cmp R k e.0) as (λ b. eq_by_cmp R k e.0 ≡ b → is_some (cond b (Some e.1) (finite.find R k entries)) ≡ true → Any (λ other. key other k) (row ∷ rows)) [
+        elim (eq_by_cmp R k e.0) as (λ b. eq_by_cmp R k e.0 ≡ b
+        → is_some (cond b (Some e.1) (finite.find R k entries)) ≡ true
+        → Any (λ other. key other k) (row ∷ rows)) [
           | true ↦ λ tie found.
               let same : k ≡ e.0 = ties k e.0 ((Equal-is (R k e.0)).0 tie) in
               (zero, row, omega arith, refl, subst (key row) (sym same) said.0.0)
-          | false ↦ λ tie found. let (i, other, below, is, key_is) = found_row rows entries k said.1 found in (suc i, other, omega arith, is, key_is)
+          | false ↦ λ tie found. let (i, other, below, is, key_is) =
+              found_row rows entries k said.1 found in (suc i, other, omega arith, is, key_is)
         ] refl found
 
     -- a key that the table has is that of a row
@@ -93,10 +104,13 @@ module _ {K X : Type 0} (key : TextRow → K → Type 0) (value : TextRow → X 
         → Any (λ other. key other k) rows
     earlier_key rows table k h found =
         found_row rows h.entries k h.say.said
-        (ap is_some (sym (finite.get-from_entries total h.entries k) ∙ ap (λ t. finite.get t k) (sym h.table_is)) ∙ found)
+        (ap is_some (sym (finite.get-from_entries total h.entries k)
+        ∙ ap (λ t. finite.get t k) (sym h.table_is)) ∙ found)
 
 -- the row behind those of a table is the first faulty one, where it has a fault
-pub first_fault : {K X : Type 0} {key : TextRow → K → Type 0} {value : TextRow → X → Type 0} {R : K → K → Ordering} {table : finite.FinMap R X} {fault : TextRow → Type 0} (rows : List TextRow) (i : ℕ) (row : TextRow)
+pub first_fault : {K X : Type 0} {key : TextRow → K → Type 0} {value : TextRow → X → Type 0} {R : K
+    → K → Ordering} {table : finite.FinMap R X} {fault : TextRow → Type 0} (rows : List TextRow)
+    (i : ℕ) (row : TextRow)
     → IsTableOf key value (take i rows) table → slice_get rows i ≡ Some row → fault row
     → FirstFaultIs key value rows i fault
 first_fault rows i row h at fault =

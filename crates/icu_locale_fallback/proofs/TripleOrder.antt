@@ -19,8 +19,10 @@ pub one_or_other : (a b : Triple) → (a ≡ b) ⊎ (a ≢ b)
 one_or_other a b =
     elim (triple_cmp a b) as (λ r. triple_cmp a b ≡ r → (a ≡ b) ⊎ (a ≢ b)) [
       | Equal ↦ λ e. inl (triples_tie a b e)
-      | Less ↦ λ e. inr (λ q. let t : triple_cmp a a ≡ Equal = tied_itself triple_cmp_total a in let u : triple_cmp a a ≡ Less = subst (λ x. triple_cmp a x ≡ Less) (sym q) e in cc)
-      | Greater ↦ λ e. inr (λ q. let t : triple_cmp a a ≡ Equal = tied_itself triple_cmp_total a in let u : triple_cmp a a ≡ Greater = subst (λ x. triple_cmp a x ≡ Greater) (sym q) e in cc)
+      | Less ↦ λ e. inr (λ q. let t : triple_cmp a a ≡ Equal = tied_itself triple_cmp_total a in
+          let u : triple_cmp a a ≡ Less = subst (λ x. triple_cmp a x ≡ Less) (sym q) e in cc)
+      | Greater ↦ λ e. inr (λ q. let t : triple_cmp a a ≡ Equal = tied_itself triple_cmp_total a in
+          let u : triple_cmp a a ≡ Greater = subst (λ x. triple_cmp a x ≡ Greater) (sym q) e in cc)
     ] refl
 
 -- triples that differ do not tie

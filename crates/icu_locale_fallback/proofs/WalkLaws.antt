@@ -1,5 +1,6 @@
 -- The laws of the walk that the crate promises.
-use Rattle.std.proofs.Common.{◌≡◌, ℕ, zero, suc, ◌+◌, ◌-◌, ◌<◌, refl, sym, ap, ◌∙◌, inl, inr, arith, zero-add}
+use Rattle.std.proofs.Common.{◌≡◌, ℕ, zero, suc, ◌+◌, ◌-◌, ◌<◌, refl, sym, ap, ◌∙◌, inl, inr, arith}
+use Rattle.std.proofs.Common.{zero-add}
 use Rattle.std.proofs.Math.Numerals.{add-one}
 use Rattle.std.proofs.lemmas.Bool.{false≢true, cases_lt}
 use Rattle.icu_locale_core.specs.Locale.{Locale, unknown}
@@ -8,7 +9,8 @@ use Rattle.icu_locale_fallback.specs.declared.config.LocaleFallbackPriority.TheV
 use Rattle.icu_locale_fallback.specs.Tables.{Tables}
 use Rattle.icu_locale_fallback.specs.Normal.{first_script}
 use Rattle.icu_locale_fallback.specs.Steps.{StaysAtUnknown, reached, rule, start, step_by, step_of}
-use Rattle.icu_locale_fallback.specs.Walk.{at, brings_back, EndsOrRepeats, NeverRepeats, Repeats, RevisitsOnly, StaysUnknown}
+use Rattle.icu_locale_fallback.specs.Walk.{at, brings_back, EndsOrRepeats, NeverRepeats, Repeats}
+use Rattle.icu_locale_fallback.specs.Walk.{RevisitsOnly, StaysUnknown}
 use Rattle.icu_locale_fallback.proofs.Ends.{ends_or_repeats}
 use Rattle.icu_locale_fallback.proofs.Revisits.{revisits}
 
@@ -20,7 +22,8 @@ reached-zero F priority l = refl
 
 -- one step more
 pub reached-suc : (F : Tables) (priority : LocaleFallbackPriority) (l : Locale) (k : ℕ)
-    → reached F priority l (k + 1) ≡ step_of priority F (first_script F.likely priority l) (reached F priority l k)
+    → reached F priority l (k + 1)
+    ≡ step_of priority F (first_script F.likely priority l) (reached F priority l k)
 unfolding reached
 reached-suc F priority l k = rw add-one refl
 
@@ -33,7 +36,8 @@ EndsOrRepeats-holds F l =
       bound = bound;
       ends = elim stop [
         | inl ended ↦ inl ended
-        | inr (back, (i, below, same)) ↦ inr (record { step = back; earlier = i; below = below; same = same })
+        | inr (back, (i, below, same)) ↦ inr
+            (record { step = back; earlier = i; below = below; same = same })
       ];
     }
 

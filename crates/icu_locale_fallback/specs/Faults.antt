@@ -4,8 +4,12 @@ use Rattle.std.specs.FinMap as finite
 use Rattle.writeable_core.specs.declared.text.TextRow.{TextRow}
 use Rattle.icu_locale_fallback.specs.declared.rows.FallbackRows.{FallbackRows}
 use Rattle.icu_locale_fallback.specs.declared.rows.TableError.{TableError}
-use Rattle.icu_locale_fallback.specs.declared.rows.TableError.TheVariants.{DuplicateKey, BadKey, BadValue, NoMemory}
-use Rattle.icu_locale_fallback.specs.Rows.{AreSound, FirstFaultIs, HasNoKey, HasNoValue, HasEarlierKey, IsTableOf, LanguageKey, LikelyValue, LanguageScriptKey, RegionValue, LanguageRegionKey, ScriptValue, ChildKey, ParentValue}
+use Rattle.icu_locale_fallback.specs.declared.rows.TableError.TheVariants.{DuplicateKey, BadKey}
+use Rattle.icu_locale_fallback.specs.declared.rows.TableError.TheVariants.{BadValue, NoMemory}
+use Rattle.icu_locale_fallback.specs.Rows.{AreSound, FirstFaultIs, HasNoKey, HasNoValue}
+use Rattle.icu_locale_fallback.specs.Rows.{HasEarlierKey, IsTableOf, LanguageKey, LikelyValue}
+use Rattle.icu_locale_fallback.specs.Rows.{LanguageScriptKey, RegionValue, LanguageRegionKey}
+use Rattle.icu_locale_fallback.specs.Rows.{ScriptValue, ChildKey, ParentValue}
 use Rattle.icu_locale_fallback.specs.Tables.{LikelySubtags, Tables}
 use Rattle.icu_locale_fallback.specs.Triple.{Triple, triple_cmp}
 
@@ -24,9 +28,11 @@ module _ {K X : Type 0} (key : TextRow → K → Type 0) (value : TextRow → X 
 pub record AreLikelyOf (rows : FallbackRows) (likely : LikelySubtags) : Type 0 where
   pub language : IsTableOf LanguageKey LikelyValue rows.likely_language.items likely.language
   pub language_script :
-      IsTableOf LanguageScriptKey RegionValue rows.likely_language_script.items likely.language_script
+      IsTableOf LanguageScriptKey RegionValue rows.likely_language_script.items
+      likely.language_script
   pub language_region :
-      IsTableOf LanguageRegionKey ScriptValue rows.likely_language_region.items likely.language_region
+      IsTableOf LanguageRegionKey ScriptValue rows.likely_language_region.items
+      likely.language_region
 
 -- table 3 is
 abbrev pub AreParentsOf : FallbackRows → finite.FinMap triple_cmp Triple → Type 0

@@ -1,13 +1,16 @@
 -- The locale that a walk begins with (after UTS 35, likely subtags, as `icu_locale_fallback`
 -- applies them).
-use Rattle.std.specs.Prelude.{ℕ, List, Option, Some, None, Bool, ◌&&◌, ◌||◌, not, false, true, is_some, map, nat_eq, codes, if◌then◌else◌}
+use Rattle.std.specs.Prelude.{ℕ, List, Option, Some, None, Bool, ◌&&◌, ◌||◌, not, false, true}
+use Rattle.std.specs.Prelude.{is_some, map, nat_eq, codes, if◌then◌else◌}
 use Rattle.std.specs.Option.{option_or, option_and_then}
 use Rattle.std.specs.List.{starts_with, ends_with}
 use Rattle.std.specs.Char.{to_ascii_lowercase}
 use Rattle.icu_locale_core.specs.Equality.{same_subtag}
 use Rattle.icu_locale_core.specs.Locale.{Locale}
 use Rattle.icu_locale_fallback.specs.declared.config.LocaleFallbackPriority.{LocaleFallbackPriority}
-use Rattle.icu_locale_fallback.specs.declared.config.LocaleFallbackPriority.TheVariants.{Language, Script, Region}
+use Rattle.icu_locale_fallback.specs.declared.config.LocaleFallbackPriority.TheVariants.{Language}
+use Rattle.icu_locale_fallback.specs.declared.config.LocaleFallbackPriority.TheVariants.{Script}
+use Rattle.icu_locale_fallback.specs.declared.config.LocaleFallbackPriority.TheVariants.{Region}
 use Rattle.icu_locale_fallback.specs.Tables.{LikelySubtags, likely_region, default_script}
 
 -- A subdivision belongs to a region where the region's text, in lower case, begins it, and it

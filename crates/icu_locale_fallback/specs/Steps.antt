@@ -1,14 +1,22 @@
 -- One step of a walk in each priority (UTS 35, locale inheritance and matching, as
 -- `icu_locale_fallback` applies it): which rule applies, and what it does.
-use Rattle.std.specs.Prelude.{◌≡◌, ◌≤◌, ℕ, suc, zero, List, [], ◌∷◌, Option, Some, None, Bool, ◌&&◌, ◌||◌, not, is_some, is_none, unwrap_or, if◌then◌else◌}
+use Rattle.std.specs.Prelude.{◌≡◌, ◌≤◌, ℕ, suc, zero, List, [], ◌∷◌, Option, Some, None, Bool, ◌&&◌}
+use Rattle.std.specs.Prelude.{◌||◌, not, is_some, is_none, unwrap_or, if◌then◌else◌}
 use Rattle.std.specs.FinMap as map
 use Rattle.std.specs.Option.{option_map}
 use Rattle.icu_locale_core.specs.Equality.{same_text, same_subtag}
 use Rattle.icu_locale_core.specs.Locale.{Locale, unknown}
 use Rattle.icu_locale_fallback.specs.declared.config.LocaleFallbackPriority.{LocaleFallbackPriority}
-use Rattle.icu_locale_fallback.specs.declared.config.LocaleFallbackPriority.TheVariants.{Language, Script, Region}
+use Rattle.icu_locale_fallback.specs.declared.config.LocaleFallbackPriority.TheVariants.{Language}
+use Rattle.icu_locale_fallback.specs.declared.config.LocaleFallbackPriority.TheVariants.{Script}
+use Rattle.icu_locale_fallback.specs.declared.config.LocaleFallbackPriority.TheVariants.{Region}
 use Rattle.icu_locale_fallback.specs.declared.rule.Rule.{Rule}
-use Rattle.icu_locale_fallback.specs.declared.rule.Rule.TheVariants.{Stay, DropSubdivision, DropVariant, GoToParent, DropRegion, KeepRegion, DropLanguage, DropLastRegion, DropLikelyScript, GoToFirstScript, DropScript}
+use Rattle.icu_locale_fallback.specs.declared.rule.Rule.TheVariants.{Stay, DropSubdivision}
+use Rattle.icu_locale_fallback.specs.declared.rule.Rule.TheVariants.{DropVariant, GoToParent}
+use Rattle.icu_locale_fallback.specs.declared.rule.Rule.TheVariants.{DropRegion, KeepRegion}
+use Rattle.icu_locale_fallback.specs.declared.rule.Rule.TheVariants.{DropLanguage, DropLastRegion}
+use Rattle.icu_locale_fallback.specs.declared.rule.Rule.TheVariants.{DropLikelyScript}
+use Rattle.icu_locale_fallback.specs.declared.rule.Rule.TheVariants.{GoToFirstScript, DropScript}
 use Rattle.icu_locale_fallback.specs.Normal.{normal, first_script}
 use Rattle.icu_locale_fallback.specs.Tables.{Tables, likely_script}
 use Rattle.icu_locale_fallback.specs.Triple.{triple_of}

@@ -5,7 +5,8 @@ use Rattle.std.specs.FinMap as map
 use Rattle.icu_locale_core.specs.Locale.{Locale, unknown}
 use Rattle.icu_locale_fallback.specs.declared.config.LocaleFallbackPriority.TheVariants.{Language}
 use Rattle.icu_locale_fallback.specs.declared.rule.Rule.{Rule}
-use Rattle.icu_locale_fallback.specs.declared.rule.Rule.TheVariants.{GoToParent, DropRegion, KeepRegion}
+use Rattle.icu_locale_fallback.specs.declared.rule.Rule.TheVariants.{GoToParent, DropRegion}
+use Rattle.icu_locale_fallback.specs.declared.rule.Rule.TheVariants.{KeepRegion}
 use Rattle.icu_locale_fallback.specs.Steps.{Reached, reached, rule, step_of}
 use Rattle.icu_locale_fallback.specs.Triple.{triple_of}
 use Rattle.icu_locale_fallback.specs.Tables.{Tables}

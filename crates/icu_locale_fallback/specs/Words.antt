@@ -1,7 +1,8 @@
 -- The errors in words.
 use Rattle.std.specs.Prelude.{ℕ, List, codes}
 use Rattle.icu_locale_fallback.specs.declared.rows.TableError.{TableError}
-use Rattle.icu_locale_fallback.specs.declared.rows.TableError.TheVariants.{DuplicateKey, BadKey, BadValue, NoMemory}
+use Rattle.icu_locale_fallback.specs.declared.rows.TableError.TheVariants.{DuplicateKey, BadKey}
+use Rattle.icu_locale_fallback.specs.declared.rows.TableError.TheVariants.{BadValue, NoMemory}
 
 -- what `TableError::text` says
 abbrev pub words_of : TableError → List ℕ

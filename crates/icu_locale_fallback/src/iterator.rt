@@ -1,8 +1,13 @@
 ghost use Rattle.std.specs.Prelude.{◌≡◌};
 ghost use Rattle.icu_locale_core.specs.Locale.{unknown};
-ghost use Rattle.icu_locale_fallback.specs.Steps.{at_rest, first_of, has_language, has_likely_script, own_rules, parent_rule, region_dropped, rule, step_by, to_first_script, without_language, without_likely_script};
+ghost use Rattle.icu_locale_fallback.specs.Steps.{at_rest, first_of, has_language};
+ghost use Rattle.icu_locale_fallback.specs.Steps.{has_likely_script, own_rules, parent_rule};
+ghost use Rattle.icu_locale_fallback.specs.Steps.{region_dropped, rule, step_by, to_first_script};
+ghost use Rattle.icu_locale_fallback.specs.Steps.{without_language, without_likely_script};
 ghost use Rattle.icu_locale_fallback.specs.Views.{Goes, GoesByNext, stepped, walk_of};
-ghost use Rattle.icu_locale_fallback.specs.declared.config.LocaleFallbackPriority.TheVariants.{Language as ByLanguage, Region as ByRegion, Script as ByScript};
+ghost use Rattle.icu_locale_fallback.specs.declared.config.LocaleFallbackPriority.TheVariants.{Language as ByLanguage};
+ghost use Rattle.icu_locale_fallback.specs.declared.config.LocaleFallbackPriority.TheVariants.{Region as ByRegion};
+ghost use Rattle.icu_locale_fallback.specs.declared.config.LocaleFallbackPriority.TheVariants.{Script as ByScript};
 
 use crate::LocaleFallbackPriority;
 use crate::fallbacker::LocaleFallbacker;

@@ -16,8 +16,8 @@
 //! `en-001` and `en`; behind them the walk stays at `und`, the unknown locale.
 //!
 //! Tables are handed in as rows of texts, and may be hostile: parents may form a ring, and then a
-//! walk has no end. The contract of [`LocaleFallbackerWithConfig::fallback_for`] says after how many
-//! steps it has ended or come round. A walk takes no memory.
+//! walk has no end. The contract of [`LocaleFallbackerWithConfig::fallback_for`] says after how
+//! many steps it has ended or come round. A walk takes no memory.
 //!
 //! - `config`: [`LocaleFallbackConfig`], what a walk holds on to longest.
 //! - `fallbacker`: [`LocaleFallbacker`], the tables that walks go by, and views of them.

@@ -1,7 +1,8 @@
 ghost use Rattle.std.specs.Prelude.{◌≡◌, map, nat_eq};
 ghost use Rattle.std.specs.Char.{to_ascii_lowercase};
 ghost use Rattle.std.specs.List.{starts_with};
-ghost use Rattle.icu_locale_fallback.specs.Normal.{belongs, but_default, default_of, first_script, kept_subdivision, normal, region_of};
+ghost use Rattle.icu_locale_fallback.specs.Normal.{belongs, but_default, default_of, first_script};
+ghost use Rattle.icu_locale_fallback.specs.Normal.{kept_subdivision, normal, region_of};
 
 use crate::LocaleFallbackPriority;
 use crate::provider::LikelySubtagsForLanguage;

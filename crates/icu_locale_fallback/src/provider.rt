@@ -1,8 +1,10 @@
 //! The tables of a fallbacker, as it holds them.
 ghost use Rattle.std.specs.Prelude.{◌≡◌, IfErr, IfOk};
 ghost use Rattle.std.specs.FinMap as map;
-ghost use Rattle.icu_locale_fallback.specs.Faults.{AreLikelyOf, AreParentsOf, IsLikelyFault, IsParentsFault};
-ghost use Rattle.icu_locale_fallback.specs.Tables.{default_script, likely_region, likely_script, no_likely_subtags};
+ghost use Rattle.icu_locale_fallback.specs.Faults.{AreLikelyOf, AreParentsOf, IsLikelyFault};
+ghost use Rattle.icu_locale_fallback.specs.Faults.{IsParentsFault};
+ghost use Rattle.icu_locale_fallback.specs.Tables.{default_script, likely_region, likely_script};
+ghost use Rattle.icu_locale_fallback.specs.Tables.{no_likely_subtags};
 
 use crate::rows::{FallbackRows, TableError};
 use crate::table::{table_of_rows, value_at};

@@ -5,7 +5,9 @@ ghost use Rattle.icu_locale_core.specs.Shapes.{IsLanguage, IsRegion, IsScript};
 ghost use Rattle.writeable_core.specs.declared.text.TextRow.{TextRow};
 ghost use Rattle.icu_locale_fallback.specs.Cells.{PrintsAs, PrintsNone};
 ghost use Rattle.icu_locale_fallback.specs.KeyLaws.{pairs_tie, texts_tie, triples_tie};
-ghost use Rattle.icu_locale_fallback.specs.Rows.{ChildKey, LanguageKey, LanguageRegionKey, LanguageScriptKey, LikelyValue, ParentValue, RegionValue, ScriptValue};
+ghost use Rattle.icu_locale_fallback.specs.Rows.{ChildKey, LanguageKey, LanguageRegionKey};
+ghost use Rattle.icu_locale_fallback.specs.Rows.{LanguageScriptKey, LikelyValue, ParentValue};
+ghost use Rattle.icu_locale_fallback.specs.Rows.{RegionValue, ScriptValue};
 ghost use Rattle.icu_locale_fallback.specs.Words.{words_of};
 
 use crate::provider::Likely;

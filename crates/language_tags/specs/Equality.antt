@@ -1,7 +1,8 @@
 -- When tags are equal, and what they match.
 use Rattle.std.specs.Prelude.{◌≡◌, ℕ, List, [], ◌∷◌, IfSome, Some}
 use Rattle.language_tags_grammar.specs.Pieces.{joined}
-use Rattle.language_tags_grammar.specs.Tag.{Tag, Whole, Plain, extensions_of, full_language_of, private_of, region_of, script_of, variants_of, written}
+use Rattle.language_tags_grammar.specs.Tag.{Tag, Whole, Plain, extensions_of, full_language_of}
+use Rattle.language_tags_grammar.specs.Tag.{private_of, region_of, script_of, variants_of, written}
 
 -- a whole tag isn't equal to one with parts, whatever it prints
 abbrev pub key : Tag → List ℕ

@@ -11,4 +11,5 @@ print-key (Whole text) = refl
 print-key (Plain p) = refl
 
 pub same_print : (g h : Tag) → IsTrue (bytes_eq (key g) (key h)) → print g ≡ print h
-same_print g h e = sym (print-key g) ∙ ap (drop 1) ((bytes_eq-Decides (key g) (key h)).0 e) ∙ print-key h
+same_print g h e = sym (print-key g)
+    ∙ ap (drop 1) ((bytes_eq-Decides (key g) (key h)).0 e) ∙ print-key h

@@ -1,16 +1,28 @@
 -- Which rule a tag breaks first (RFC 5646, section 2.2.9).
-use Rattle.std.specs.Prelude.{ℕ, Bool, true, false, ◌&&◌, ◌||◌, ◌==◌, not, List, [], ◌∷◌, ◌++◌, Option, Some, None, codes, if◌then◌else◌, is_some, length, map, nat_eq, nat_lt}
+use Rattle.std.specs.Prelude.{ℕ, Bool, true, false, ◌&&◌, ◌||◌, ◌==◌, not, List, [], ◌∷◌, ◌++◌}
+use Rattle.std.specs.Prelude.{Option, Some, None, codes, if◌then◌else◌, is_some, length, map}
+use Rattle.std.specs.Prelude.{nat_eq, nat_lt}
 use Rattle.std.specs.Cmp.Lexicographic.{slice_cmp}
 use Rattle.std.specs.List.{flat_map, list_any, slice_split, starts_with}
 use Rattle.std.specs.Ordering.{is_le, nat_cmp}
 use Rattle.std.specs.Str.{byte, bytes_eq}
 use Rattle.writeable_core.specs.FirstFailure.{Condition, first_failure}
 use Rattle.language_tags_grammar.specs.Grandfathered.{is_grandfathered}
-use Rattle.language_tags_grammar.specs.Tag.{Tag, at_most_one, extensions_of, extlangs_of, language_of, print, region_of, script_of, variants_of}
+use Rattle.language_tags_grammar.specs.Tag.{Tag, at_most_one, extensions_of, extlangs_of}
+use Rattle.language_tags_grammar.specs.Tag.{language_of, print, region_of, script_of, variants_of}
 use Rattle.language_tags_registry.specs.Registry.{Entry, Tables, value_of}
 use Rattle.language_tags.specs.PrivateUse.{is_private_use}
 use Rattle.language_tags.specs.declared.error.ValidationError.{ValidationError}
-use Rattle.language_tags.specs.declared.error.ValidationError.TheVariants.{DuplicateVariant, DuplicateExtension, MultipleExtendedLanguageSubtags, PrimaryLanguageNotInRegistry, ExtendedLanguageNotInRegistry, ScriptNotInRegistry, RegionNotInRegistry, VariantNotInRegistry, WrongExtendedLanguagePrefix, WrongVariantPrefix}
+use Rattle.language_tags.specs.declared.error.ValidationError.TheVariants.{DuplicateVariant}
+use Rattle.language_tags.specs.declared.error.ValidationError.TheVariants.{DuplicateExtension}
+use Rattle.language_tags.specs.declared.error.ValidationError.TheVariants.{MultipleExtendedLanguageSubtags}
+use Rattle.language_tags.specs.declared.error.ValidationError.TheVariants.{PrimaryLanguageNotInRegistry}
+use Rattle.language_tags.specs.declared.error.ValidationError.TheVariants.{ExtendedLanguageNotInRegistry}
+use Rattle.language_tags.specs.declared.error.ValidationError.TheVariants.{ScriptNotInRegistry}
+use Rattle.language_tags.specs.declared.error.ValidationError.TheVariants.{RegionNotInRegistry}
+use Rattle.language_tags.specs.declared.error.ValidationError.TheVariants.{VariantNotInRegistry}
+use Rattle.language_tags.specs.declared.error.ValidationError.TheVariants.{WrongExtendedLanguagePrefix}
+use Rattle.language_tags.specs.declared.error.ValidationError.TheVariants.{WrongVariantPrefix}
 
 -- a table has the subtag
 abbrev pub has : List Entry → List ℕ → Bool
@@ -18,24 +30,29 @@ has table subtag = is_some (value_of table subtag)
 
 -- the subtag lies in a range, in text order
 abbrev pub lies_in : List ℕ → List ℕ → List ℕ → Bool
-lies_in first last subtag = is_le (slice_cmp nat_cmp first subtag) && is_le (slice_cmp nat_cmp subtag last)
+lies_in first last subtag =
+    is_le (slice_cmp nat_cmp first subtag) && is_le (slice_cmp nat_cmp subtag last)
 
--- the subtag is in the registry, or is one of those for private use (section 2.2.1, 2.2.3 and 2.2.4)
+-- the subtag is in the registry, or is one of those for private use (section 2.2.1, 2.2.3 and
+-- 2.2.4)
 abbrev pub is_known_language : Tables → List ℕ → Bool
-is_known_language R language = has R.languages language || lies_in (codes "qaa") (codes "qtz") language
+is_known_language R language =
+    has R.languages language || lies_in (codes "qaa") (codes "qtz") language
 
 abbrev pub is_known_script : Tables → List ℕ → Bool
 is_known_script R script = has R.scripts script || lies_in (codes "Qaaa") (codes "Qabx") script
 
 abbrev pub is_known_region : Tables → List ℕ → Bool
 is_known_region R region =
-    has R.regions region || lies_in (codes "QM") (codes "QZ") region || lies_in (codes "XA") (codes "XZ") region
+    has R.regions region || lies_in (codes "QM") (codes "QZ") region
+    || lies_in (codes "XA") (codes "XZ") region
 
 -- a text begins a tag's text
 abbrev pub begins : List ℕ → List ℕ → Bool
 begins text prefix = starts_with nat_eq text prefix
 
--- the prefix of an extlang begins the text; one of those of a variant does, which are cut at single spaces
+-- the prefix of an extlang begins the text; one of those of a variant does, which are cut at single
+-- spaces
 abbrev pub follows_prefix : List ℕ → Option (List ℕ) → Bool
 follows_prefix text None = false
 follows_prefix text (Some prefix) = begins text prefix
@@ -85,4 +102,5 @@ rules R g =
 
 -- The fault of a tag. A private use tag has none, and neither has one whose text is grandfathered.
 abbrev pub valid : Tables → Tag → Option ValidationError
-valid R g = if is_private_use g || is_grandfathered (print g) then None else first_failure (rules R g)
+valid R g = if is_private_use g
+    || is_grandfathered (print g) then None else first_failure (rules R g)

@@ -1,7 +1,17 @@
 -- The errors in words.
 use Rattle.std.specs.Prelude.{ℕ, List, codes}
 use Rattle.language_tags.specs.declared.error.ValidationError.{ValidationError}
-use Rattle.language_tags.specs.declared.error.ValidationError.TheVariants.{DuplicateVariant, DuplicateExtension, MultipleExtendedLanguageSubtags, PrimaryLanguageNotInRegistry, ExtendedLanguageNotInRegistry, ScriptNotInRegistry, RegionNotInRegistry, VariantNotInRegistry, WrongExtendedLanguagePrefix, WrongVariantPrefix, NoMemory}
+use Rattle.language_tags.specs.declared.error.ValidationError.TheVariants.{DuplicateVariant}
+use Rattle.language_tags.specs.declared.error.ValidationError.TheVariants.{DuplicateExtension}
+use Rattle.language_tags.specs.declared.error.ValidationError.TheVariants.{MultipleExtendedLanguageSubtags}
+use Rattle.language_tags.specs.declared.error.ValidationError.TheVariants.{PrimaryLanguageNotInRegistry}
+use Rattle.language_tags.specs.declared.error.ValidationError.TheVariants.{ExtendedLanguageNotInRegistry}
+use Rattle.language_tags.specs.declared.error.ValidationError.TheVariants.{ScriptNotInRegistry}
+use Rattle.language_tags.specs.declared.error.ValidationError.TheVariants.{RegionNotInRegistry}
+use Rattle.language_tags.specs.declared.error.ValidationError.TheVariants.{VariantNotInRegistry}
+use Rattle.language_tags.specs.declared.error.ValidationError.TheVariants.{WrongExtendedLanguagePrefix}
+use Rattle.language_tags.specs.declared.error.ValidationError.TheVariants.{WrongVariantPrefix}
+use Rattle.language_tags.specs.declared.error.ValidationError.TheVariants.{NoMemory}
 
 -- what `ValidationError::text` says
 abbrev pub words_of : ValidationError → List ℕ

@@ -1,7 +1,8 @@
 -- A text's letters and digits, and those of its lower case.
 use Rattle.std.proofs.Common.{◌≡◌, ℕ, Bool, List, [], ◌∷◌, refl, arith}
 use Rattle.std.specs.Prelude.{◌&&◌, map}
-use Rattle.std.specs.Char.{is_ascii_alphabetic, is_ascii_alphanumeric, is_ascii_digit, is_ascii_lowercase, to_ascii_lowercase}
+use Rattle.std.specs.Char.{is_ascii_alphabetic, is_ascii_alphanumeric, is_ascii_digit}
+use Rattle.std.specs.Char.{is_ascii_lowercase, to_ascii_lowercase}
 use Rattle.std.specs.List.{list_all}
 use Rattle.std.proofs.lemmas.Bool.Decides.{nat_tests}
 use Rattle.language_tags_grammar.specs.Pieces.{lowercase}
@@ -21,11 +22,15 @@ module _ (f : ℕ → ℕ) (p q : ℕ → Bool) (same : (c : ℕ) → p (f c) �
   all_of [] = refl
   all_of (c ∷ text) = λ i. same c i && all_of text i
 
-pub letters_lowercase : (text : List ℕ) → list_all is_ascii_lowercase (lowercase text) ≡ list_all is_ascii_alphabetic text
-letters_lowercase = all_of to_ascii_lowercase is_ascii_lowercase is_ascii_alphabetic letter_lowercase
+pub letters_lowercase : (text : List ℕ)
+    → list_all is_ascii_lowercase (lowercase text) ≡ list_all is_ascii_alphabetic text
+letters_lowercase =
+    all_of to_ascii_lowercase is_ascii_lowercase is_ascii_alphabetic letter_lowercase
 
-pub digits_lowercase : (text : List ℕ) → list_all is_ascii_digit (lowercase text) ≡ list_all is_ascii_digit text
+pub digits_lowercase : (text : List ℕ)
+    → list_all is_ascii_digit (lowercase text) ≡ list_all is_ascii_digit text
 digits_lowercase = all_of to_ascii_lowercase is_ascii_digit is_ascii_digit digit_lowercase
 
-pub small_lowercase : (text : List ℕ) → list_all is_small (lowercase text) ≡ list_all is_ascii_alphanumeric text
+pub small_lowercase : (text : List ℕ)
+    → list_all is_small (lowercase text) ≡ list_all is_ascii_alphanumeric text
 small_lowercase = all_of to_ascii_lowercase is_small is_ascii_alphanumeric small_lowercase_one

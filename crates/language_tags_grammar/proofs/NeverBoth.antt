@@ -1,5 +1,7 @@
 -- A text that has a tag has no fault.
-use Rattle.std.proofs.Common.{◌≡◌, ℕ, zero, suc, ◌+◌, ◌<◌, true, false, List, [], ◌∷◌, ◌++◌, Some, Ok, MatchResult, length, take, drop, refl, sym, ap, ◌∙◌, append-nil, arith, subst}
+use Rattle.std.proofs.Common.{◌≡◌, ℕ, zero, suc, ◌+◌, ◌<◌, true, false, List, [], ◌∷◌, ◌++◌, Some}
+use Rattle.std.proofs.Common.{Ok, MatchResult, length, take, drop, refl, sym, ap, ◌∙◌, append-nil}
+use Rattle.std.proofs.Common.{arith, subst}
 use Rattle.std.specs.Prelude.{◌&&◌, ◌||◌, slice_get}
 use Rattle.std.specs.List.{list_all}
 use Rattle.std.specs.Str.{byte}
@@ -9,13 +11,24 @@ use Rattle.language_tags_grammar.specs.Begun.{Begun}
 use Rattle.language_tags_grammar.specs.Pieces.{is_dash, joined, lowercase, pieces}
 use Rattle.language_tags_grammar.specs.Shapes.{is_private, is_small}
 use Rattle.language_tags_grammar.specs.Tag.{Parts, Tag}
-use Rattle.language_tags_grammar.specs.TagFault.{IsFaultBehindX, IsFaultOf, IsFaultOfPieces, IsUnfinished, are_allowed, at_end, at_piece, behind_x, in_pieces}
+use Rattle.language_tags_grammar.specs.TagFault.{IsFaultBehindX, IsFaultOf, IsFaultOfPieces}
+use Rattle.language_tags_grammar.specs.TagFault.{IsUnfinished, are_allowed, at_end, at_piece}
+use Rattle.language_tags_grammar.specs.TagFault.{behind_x, in_pieces}
 use Rattle.language_tags_grammar.specs.TagOf.{IsLangtag, IsTagOf, langtag, private_use, whole}
 use Rattle.language_tags_grammar.specs.declared.error.ParseError.{ParseError}
-use Rattle.language_tags_grammar.specs.declared.error.ParseError.TheVariants.{EmptyExtension, EmptyPrivateUse, ForbiddenChar, InvalidSubtag, InvalidLanguage, SubtagTooLong, EmptySubtag, TooManyExtlangs, NoMemory}
+use Rattle.language_tags_grammar.specs.declared.error.ParseError.TheVariants.{EmptyExtension}
+use Rattle.language_tags_grammar.specs.declared.error.ParseError.TheVariants.{EmptyPrivateUse}
+use Rattle.language_tags_grammar.specs.declared.error.ParseError.TheVariants.{ForbiddenChar}
+use Rattle.language_tags_grammar.specs.declared.error.ParseError.TheVariants.{InvalidSubtag}
+use Rattle.language_tags_grammar.specs.declared.error.ParseError.TheVariants.{InvalidLanguage}
+use Rattle.language_tags_grammar.specs.declared.error.ParseError.TheVariants.{SubtagTooLong}
+use Rattle.language_tags_grammar.specs.declared.error.ParseError.TheVariants.{EmptySubtag}
+use Rattle.language_tags_grammar.specs.declared.error.ParseError.TheVariants.{TooManyExtlangs}
+use Rattle.language_tags_grammar.specs.declared.error.ParseError.TheVariants.{NoMemory}
 use Rattle.language_tags_grammar.specs.declared.stage.Stage.{Stage}
 use Rattle.language_tags_grammar.specs.declared.stage.Stage.TheVariants.{Start, Singleton, X}
-use Rattle.language_tags_grammar.specs.Lemmas.Faults.{Ended, Stops, outcome, reached_nothing, stage_in}
+use Rattle.language_tags_grammar.specs.Lemmas.Faults.{Ended, Stops, outcome, reached_nothing}
+use Rattle.language_tags_grammar.specs.Lemmas.Faults.{stage_in}
 use Rattle.language_tags_grammar.specs.Lemmas.Flat.{Flat, nothing}
 use Rattle.language_tags_grammar.specs.Lemmas.Forward.{run}
 use Rattle.language_tags_grammar.specs.Lemmas.Grammar.{parts_passed, singleton_passed, x_passed}
@@ -36,14 +49,17 @@ not_x : IsEnd X → ⊥
 not_x (in_front a b) = omega arith
 not_x (in_private a) = omega arith
 
-module _ (ps : List (List ℕ)) (s : Stage) (f : Flat) (is : run Start nothing ps ≡ Ok (s, f)) (e : IsEnd s) where
+module _ (ps : List (List ℕ)) (s : Stage) (f : Flat) (is : run Start nothing ps ≡ Ok (s, f))
+    (e : IsEnd s) where
   ended : Ended ps (s, f)
-  ended = subst (λ q. MatchResult q (Ended ps) (Stops ps)) is (outcome ps Start nothing reached_nothing)
+  ended =
+      subst (λ q. MatchResult q (Ended ps) (Stops ps)) is (outcome ps Start nothing reached_nothing)
 
   finished_fault : (fault : ParseError) → IsUnfinished ps fault → ⊥
   finished_fault EmptyExtension h =
       not_singleton (subst IsEnd (ap stage_in (sym is ∙ (singleton_passed ps h).1)) e)
-  finished_fault EmptyPrivateUse h = not_x (subst IsEnd (ap stage_in (sym is ∙ (x_passed ps h).1)) e)
+  finished_fault EmptyPrivateUse h =
+      not_x (subst IsEnd (ap stage_in (sym is ∙ (x_passed ps h).1)) e)
   finished_fault EmptySubtag h = absurd h
   finished_fault SubtagTooLong h = absurd h
   finished_fault InvalidLanguage h = absurd h
@@ -56,16 +72,20 @@ module _ (ps : List (List ℕ)) (s : Stage) (f : Flat) (is : run Start nothing p
   no_fault fault (at_end all h) = finished_fault fault h
   no_fault fault (at_piece w) =
       w.breaks (subst (λ qs. Begun (take (w.place + 1) qs)) (sym ended.all)
-      (ended.reached.begun w.place (subst (λ qs. w.place < length qs) ended.all (some_place ps w.place w.piece w.piece_is))))
+      (ended.reached.begun w.place
+      (subst (λ qs. w.place < length qs) ended.all (some_place ps w.place w.piece w.piece_is))))
 
-pub langtag_no_fault : (text : List ℕ) (p : Parts) (fault : ParseError) → IsLangtag text p → IsFaultOfPieces (pieces (lowercase text)) fault → ⊥
+pub langtag_no_fault : (text : List ℕ) (p : Parts) (fault : ParseError) → IsLangtag text p
+    → IsFaultOfPieces (pieces (lowercase text)) fault → ⊥
 langtag_no_fault text p fault h w =
     let all = parts_passed p h.shapes in
-    no_fault (pieces (lowercase text)) all.0 (flat p) (ap (run Start nothing) h.in_order ∙ all.2) all.1 fault w
+    no_fault (pieces (lowercase text)) all.0 (flat p)
+    (ap (run Start nothing) h.in_order ∙ all.2) all.1 fault w
 
 -- ---- private use
 
-private_at : (ps : List (List ℕ)) (i : ℕ) (x : List ℕ) → list_all is_private ps ≡ true → slice_get ps i ≡ Some x → is_private x ≡ true
+private_at : (ps : List (List ℕ)) (i : ℕ) (x : List ℕ) → list_all is_private ps ≡ true
+    → slice_get ps i ≡ Some x → is_private x ≡ true
 private_at [] i x h e = cc
 private_at (p ∷ ps) zero x h e =
     let head : is_private p ≡ true = grind (arith, nat_tests) in
@@ -75,14 +95,16 @@ private_at (p ∷ ps) (suc i) x h e =
     let tail : list_all is_private ps ≡ true = grind (arith, nat_tests) in
     private_at ps i x tail e
 
-allowed_small : (x : List ℕ) (rest : List ℕ) → list_all is_small x ≡ true → are_allowed rest ≡ true → are_allowed (x ++ rest) ≡ true
+allowed_small : (x : List ℕ) (rest : List ℕ) → list_all is_small x ≡ true → are_allowed rest ≡ true
+    → are_allowed (x ++ rest) ≡ true
 allowed_small [] rest e h = h
 allowed_small (c ∷ x) rest e h =
     let head : is_small c ≡ true = grind (arith, nat_tests) in
     let tail : list_all is_small x ≡ true = grind (arith, nat_tests) in
     λ i. (head i || is_dash c) && allowed_small x rest tail h i
 
-allowed_pieces : (ps : List (List ℕ)) → list_all is_private ps ≡ true → are_allowed (joined ps) ≡ true
+allowed_pieces : (ps : List (List ℕ)) → list_all is_private ps ≡ true
+    → are_allowed (joined ps) ≡ true
 allowed_pieces [] h = refl
 allowed_pieces (x ∷ []) h =
     let small : list_all is_small x ≡ true = grind (arith, nat_tests) in
@@ -95,7 +117,8 @@ allowed_pieces (x ∷ y ∷ ps) h =
 
 module _ (rest : List ℕ) (h : list_all is_private (pieces rest) ≡ true) where
   allowed : are_allowed rest ≡ true
-  allowed = ap are_allowed (sym (join_with_byte-slice_split 45 rest)) ∙ allowed_pieces (pieces rest) h
+  allowed = ap are_allowed (sym (join_with_byte-slice_split 45 rest))
+      ∙ allowed_pieces (pieces rest) h
 
   behind_no_fault : (fault : ParseError) → IsFaultBehindX rest fault → ⊥
   behind_no_fault ForbiddenChar w = let clash : true ≡ false = sym allowed ∙ w in cc
@@ -120,7 +143,9 @@ pub never_both : (t : List ℕ) (g : Tag) (fault : ParseError) → IsTagOf t g �
 never_both t g fault (whole x a is) (behind_x b rest c d) = cc
 never_both t g fault (whole x a is) (in_pieces b c d) = cc
 never_both t g fault (private_use a rest behind are is) (behind_x b other too w) =
-    behind_no_fault other (ap (λ r. list_all is_private (pieces r)) (ap (drop 2) (sym too ∙ behind)) ∙ are) fault w
-never_both t g fault (private_use a rest behind are is) (in_pieces b otherwise w) = otherwise rest behind
+    behind_no_fault other
+    (ap (λ r. list_all is_private (pieces r)) (ap (drop 2) (sym too ∙ behind)) ∙ are) fault w
+never_both t g fault (private_use a rest behind are is) (in_pieces b otherwise w) =
+    otherwise rest behind
 never_both t g fault (langtag a otherwise p h is) (behind_x b rest behind w) = otherwise rest behind
 never_both t g fault (langtag a otherwise p h is) (in_pieces b c w) = langtag_no_fault t p fault h w

@@ -1,5 +1,6 @@
 -- A text has one fault at most.
-use Rattle.std.proofs.Common.{rules, ◌≡◌, ℕ, zero, suc, ◌<◌, true, false, ⊎_elim, List, [], ◌∷◌, ◌++◌, Some, map, length, take, drop, refl, sym, ap, ◌∙◌, subst, arith}
+use Rattle.std.proofs.Common.{rules, ◌≡◌, ℕ, zero, suc, ◌<◌, true, false, ⊎_elim, List, [], ◌∷◌}
+use Rattle.std.proofs.Common.{◌++◌, Some, map, length, take, drop, refl, sym, ap, ◌∙◌, subst, arith}
 use Rattle.std.specs.Prelude.{IsTrue, slice_get}
 use Rattle.std.specs.Str.{byte}
 use Rattle.std.proofs.lemmas.Bool.{cases_order}
@@ -10,9 +11,19 @@ use Rattle.language_tags_grammar.specs.Begun.{EndInThirdExtlang, EndsInSingleton
 use Rattle.language_tags_grammar.specs.Pieces.{lowercase, pieces}
 use Rattle.language_tags_grammar.specs.Shapes.{is_extlang, is_singleton}
 use Rattle.language_tags_grammar.specs.Tag.{written}
-use Rattle.language_tags_grammar.specs.TagFault.{are_allowed, IsFaultBehindX, IsFaultOf, IsFaultOfPieces, IsFirstBad, IsSingle, IsSized, IsUnfinished, IsWrongBehind, at_end, at_piece, behind_x, in_pieces}
+use Rattle.language_tags_grammar.specs.TagFault.{are_allowed, IsFaultBehindX, IsFaultOf}
+use Rattle.language_tags_grammar.specs.TagFault.{IsFaultOfPieces, IsFirstBad, IsSingle, IsSized}
+use Rattle.language_tags_grammar.specs.TagFault.{IsUnfinished, IsWrongBehind, at_end, at_piece}
+use Rattle.language_tags_grammar.specs.TagFault.{behind_x, in_pieces}
 use Rattle.language_tags_grammar.specs.declared.error.ParseError.{ParseError}
-use Rattle.language_tags_grammar.specs.declared.error.ParseError.TheVariants.{EmptyExtension, EmptyPrivateUse, ForbiddenChar, InvalidSubtag, InvalidLanguage, SubtagTooLong, EmptySubtag, TooManyExtlangs}
+use Rattle.language_tags_grammar.specs.declared.error.ParseError.TheVariants.{EmptyExtension}
+use Rattle.language_tags_grammar.specs.declared.error.ParseError.TheVariants.{EmptyPrivateUse}
+use Rattle.language_tags_grammar.specs.declared.error.ParseError.TheVariants.{ForbiddenChar}
+use Rattle.language_tags_grammar.specs.declared.error.ParseError.TheVariants.{InvalidSubtag}
+use Rattle.language_tags_grammar.specs.declared.error.ParseError.TheVariants.{InvalidLanguage}
+use Rattle.language_tags_grammar.specs.declared.error.ParseError.TheVariants.{SubtagTooLong}
+use Rattle.language_tags_grammar.specs.declared.error.ParseError.TheVariants.{EmptySubtag}
+use Rattle.language_tags_grammar.specs.declared.error.ParseError.TheVariants.{TooManyExtlangs}
 
 -- ---- what is wrong with a piece: no two faults hold of it
 
@@ -41,7 +52,8 @@ single_extlang : (piece : List ℕ) → IsSingle piece → IsTrue (is_extlang pi
 single_extlang piece h k = grind (arith, nat_tests)
 
 -- so a piece has one fault at most behind those before it
-wrong_one : (before : List (List ℕ)) (piece : List ℕ) (f g : ParseError) → IsWrongBehind before piece f
+wrong_one : (before : List (List ℕ)) (piece : List ℕ) (f g : ParseError)
+    → IsWrongBehind before piece f
     → IsWrongBehind before piece g → f ≡ g
 wrong_one before piece EmptySubtag EmptySubtag h k = refl
 wrong_one before piece SubtagTooLong SubtagTooLong h k = refl
@@ -50,7 +62,16 @@ wrong_one before piece EmptyExtension EmptyExtension h k = refl
 wrong_one before piece TooManyExtlangs TooManyExtlangs h k = refl
 wrong_one before piece InvalidSubtag InvalidSubtag h k = refl
 wrong_one before piece f g h k =
-    absurd (search (rules, empty_long piece, empty_sized piece, long_sized piece, first_singleton before, first_third before, single_extlang piece))
+    absurd
+    (search (
+      rules,
+      empty_long piece,
+      empty_sized piece,
+      long_sized piece,
+      first_singleton before,
+      first_third before,
+      single_extlang piece,
+    ))
 
 -- ---- what is wrong at the end
 
@@ -65,12 +86,14 @@ last_same (a ∷ xs) (b ∷ ys) x y e = last_same xs ys x y (ap (drop 1) e)
 singleton_x : (ps : List (List ℕ)) → EndsInSingleton ps → EndsInX ps → ⊥
 singleton_x ps h k =
     let last : (h.singleton ∷ []) ≡ (byte "x" ∷ []) =
-    last_same (map lowercase (written h.parts)) (map lowercase (written k.parts)) _ _ (sym h.ends.in_order ∙ k.ends.in_order) in
+    last_same (map lowercase (written h.parts)) (map lowercase (written k.parts)) _ _
+    (sym h.ends.in_order ∙ k.ends.in_order) in
     let same : h.singleton ≡ byte "x" = cc in
     let clash : false ≡ true = ap is_singleton (sym same) ∙ h.is in cc
 
 -- so there is one fault at most at the end
-unfinished_one : (ps : List (List ℕ)) (f g : ParseError) → IsUnfinished ps f → IsUnfinished ps g → f ≡ g
+unfinished_one : (ps : List (List ℕ)) (f g : ParseError) → IsUnfinished ps f
+    → IsUnfinished ps g → f ≡ g
 unfinished_one ps EmptyExtension EmptyExtension h k = refl
 unfinished_one ps EmptyPrivateUse EmptyPrivateUse h k = refl
 unfinished_one ps f g h k = absurd (search (rules, singleton_x ps))
@@ -78,7 +101,8 @@ unfinished_one ps f g h k = absurd (search (rules, singleton_x ps))
 -- ---- of pieces, at the first place that breaks
 
 -- the first place that breaks is one, and what is wrong there
-pieces_one : (ps : List (List ℕ)) (f g : ParseError) → IsFaultOfPieces ps f → IsFaultOfPieces ps g → f ≡ g
+pieces_one : (ps : List (List ℕ)) (f g : ParseError) → IsFaultOfPieces ps f
+    → IsFaultOfPieces ps g → f ≡ g
 pieces_one ps f g (at_piece w) (at_piece v) =
     ⊎_elim
     (λ (e : w.place ≡ v.place).
@@ -90,21 +114,26 @@ pieces_one ps f g (at_piece w) (at_piece v) =
     (⊎_elim (λ (lt : w.place < v.place). absurd (w.breaks (v.before w.place lt)))
     (λ (lt : v.place < w.place). absurd (v.breaks (w.before v.place lt))))
     (cases_order w.place v.place)
-pieces_one ps f g (at_piece w) (at_end all h) = absurd (w.breaks (all w.place (slice_get_within ps w.place w.piece w.piece_is)))
-pieces_one ps f g (at_end all h) (at_piece v) = absurd (v.breaks (all v.place (slice_get_within ps v.place v.piece v.piece_is)))
+pieces_one ps f g (at_piece w) (at_end all h) =
+    absurd (w.breaks (all w.place (slice_get_within ps w.place w.piece w.piece_is)))
+pieces_one ps f g (at_end all h) (at_piece v) =
+    absurd (v.breaks (all v.place (slice_get_within ps v.place v.piece v.piece_is)))
 pieces_one ps f g (at_end all h) (at_end other k) = unfinished_one ps f g h k
 
 -- ---- behind `x-`
 
 -- the first bad piece is empty or too long, and not both
-empty_first : (ps : List (List ℕ)) → IsFirstBad ps (λ piece. piece ≡ []) → IsFirstBad ps (λ piece. 8 < length piece) → ⊥
+empty_first : (ps : List (List ℕ)) → IsFirstBad ps (λ piece. piece ≡ [])
+    → IsFirstBad ps (λ piece. 8 < length piece) → ⊥
 empty_first ps h k =
     ⊎_elim
     (λ (e : h.place ≡ k.place).
     let found : Some h.piece ≡ Some k.piece = sym h.piece_is ∙ ap (slice_get ps) e ∙ k.piece_is in
     let same : h.piece ≡ k.piece = cc in
     empty_long k.piece (sym same ∙ h.bad) k.bad)
-    (⊎_elim (λ (lt : h.place < k.place). empty_sized h.piece h.bad (k.before h.place h.piece lt h.piece_is))
+    (⊎_elim
+    (λ (lt : h.place < k.place).
+    empty_sized h.piece h.bad (k.before h.place h.piece lt h.piece_is))
     (λ (lt : k.place < h.place). long_sized k.piece k.bad (h.before k.place k.piece lt k.piece_is)))
     (cases_order h.place k.place)
 
@@ -114,9 +143,12 @@ only_piece zero piece e = cc
 only_piece (suc place) piece e = cc
 
 -- so no piece of the empty text is too long
-nothing_long : (rest : List ℕ) → rest ≡ [] → IsFirstBad (pieces rest) (λ piece. 8 < length piece) → ⊥
+nothing_long : (rest : List ℕ) → rest ≡ []
+    → IsFirstBad (pieces rest) (λ piece. 8 < length piece) → ⊥
 nothing_long rest e h =
-    empty_long h.piece (only_piece h.place h.piece (ap (λ r. slice_get (pieces r) h.place) (sym e) ∙ h.piece_is)) h.bad
+    empty_long h.piece
+    (only_piece h.place h.piece (ap (λ r. slice_get (pieces r) h.place) (sym e) ∙ h.piece_is))
+    h.bad
 
 -- the empty text has no forbidden character
 forbidden_nothing : (rest : List ℕ) → are_allowed rest ≡ false → rest ≡ [] → ⊥
@@ -127,12 +159,21 @@ forbidden_allowed : (rest : List ℕ) → are_allowed rest ≡ false → IsTrue 
 forbidden_allowed rest h k = let clash : true ≡ false = sym k ∙ h in cc
 
 -- so there is one fault at most behind `x-`
-behind_one : (rest : List ℕ) (f g : ParseError) → IsFaultBehindX rest f → IsFaultBehindX rest g → f ≡ g
+behind_one : (rest : List ℕ) (f g : ParseError) → IsFaultBehindX rest f
+    → IsFaultBehindX rest g → f ≡ g
 behind_one rest ForbiddenChar ForbiddenChar h k = refl
 behind_one rest EmptyPrivateUse EmptyPrivateUse h k = refl
 behind_one rest EmptySubtag EmptySubtag h k = refl
 behind_one rest SubtagTooLong SubtagTooLong h k = refl
-behind_one rest f g h k = absurd (search (rules, empty_first (pieces rest), nothing_long rest, forbidden_nothing rest, forbidden_allowed rest))
+behind_one rest f g h k =
+    absurd
+    (search (
+      rules,
+      empty_first (pieces rest),
+      nothing_long rest,
+      forbidden_nothing rest,
+      forbidden_allowed rest,
+    ))
 
 -- ---- a text's fault
 

@@ -1,8 +1,11 @@
 -- Whether a text is a tag, and its own printed form.
-use Rattle.std.proofs.Common.{Bor, ◌≡◌, ℕ, ◌+◌, ◌-◌, ◌≤◌, ◌↔◌, Bool, true, false, not, List, [], ◌∷◌, ◌++◌, Option, Some, None, Result, Ok, Err, MatchResult, length, take, drop, refl, sym, ap, ◌∙◌, subst, arith, map, append_assoc}
+use Rattle.std.proofs.Common.{Bor, ◌≡◌, ℕ, ◌+◌, ◌-◌, ◌≤◌, ◌↔◌, Bool, true, false, not, List, []}
+use Rattle.std.proofs.Common.{◌∷◌, ◌++◌, Option, Some, None, Result, Ok, Err, MatchResult, length}
+use Rattle.std.proofs.Common.{take, drop, refl, sym, ap, ◌∙◌, subst, arith, map, append_assoc}
 use Rattle.std.specs.Prelude.{IsTrue, is_ok, is_some}
 use Rattle.std.specs.Option.{option_copied}
-use Rattle.std.specs.Char.{is_ascii_lowercase, is_ascii_uppercase, to_ascii_lowercase, to_ascii_uppercase}
+use Rattle.std.specs.Char.{is_ascii_lowercase, is_ascii_uppercase, to_ascii_lowercase}
+use Rattle.std.specs.Char.{to_ascii_uppercase}
 use Rattle.std.specs.List.{list_all}
 use Rattle.std.proofs.lemmas.Bool.Decides.{nat_tests}
 use Rattle.std.proofs.lemmas.List.{drop-drop, length-map, take-append-drop, take_rest}
@@ -13,8 +16,10 @@ use Rattle.language_tags_grammar.specs.Pieces.{lowercase, pieces, uppercase}
 use Rattle.language_tags_grammar.specs.Scan.{scanned}
 use Rattle.language_tags_grammar.specs.Shapes.{is_private}
 use Rattle.language_tags_grammar.specs.Tag.{Tag, Whole, Plain, print}
-use Rattle.language_tags_grammar.specs.TagFault.{IsFaultBehindX, IsFaultOf, IsFaultOfPieces, behind_x, in_pieces}
-use Rattle.language_tags_grammar.specs.TagOf.{BeginsOtherwise, IsTagOf, StandsBehindX, langtag, private_use, whole}
+use Rattle.language_tags_grammar.specs.TagFault.{IsFaultBehindX, IsFaultOf, IsFaultOfPieces}
+use Rattle.language_tags_grammar.specs.TagFault.{behind_x, in_pieces}
+use Rattle.language_tags_grammar.specs.TagOf.{BeginsOtherwise, IsTagOf, StandsBehindX, langtag}
+use Rattle.language_tags_grammar.specs.TagOf.{private_use, whole}
 use Rattle.language_tags_grammar.specs.declared.ends.Ends.{Ends}
 use Rattle.language_tags_grammar.specs.declared.error.ParseError.{ParseError}
 use Rattle.language_tags_grammar.specs.Lemmas.Faults.{Scanned, scanned_law}
@@ -45,7 +50,8 @@ is_upper : (c : ℕ) → to_ascii_uppercase c ≡ c → not (is_ascii_lowercase 
 is_upper c h = grind (arith, nat_tests)
 
 -- a function that a test tells to keep a character keeps a text exactly where all pass
-module _ (f : ℕ → ℕ) (test : ℕ → Bool) (keeps : (c : ℕ) → test c ≡ true → f c ≡ c) (kept : (c : ℕ) → f c ≡ c → test c ≡ true) where
+module _ (f : ℕ → ℕ) (test : ℕ → Bool) (keeps : (c : ℕ) → test c ≡ true → f c ≡ c)
+    (kept : (c : ℕ) → f c ≡ c → test c ≡ true) where
   all_keep : (t : List ℕ) → list_all test t ≡ true → map f t ≡ t
   all_keep [] h = refl
   all_keep (c ∷ t) h =
@@ -62,15 +68,19 @@ module _ (f : ℕ → ℕ) (test : ℕ → Bool) (keeps : (c : ℕ) → test c �
       let b : list_all test t ≡ true = all_kept t rest in
       grind (arith, nat_tests)
 
-pub in_lowercase : (t : List ℕ) (b : Bool) → b ≡ list_all (λ c. not (is_ascii_uppercase c)) t → IsTrue b ↔ (lowercase t ≡ t)
+pub in_lowercase : (t : List ℕ) (b : Bool) → b ≡ list_all (λ c. not (is_ascii_uppercase c)) t
+    → IsTrue b ↔ (lowercase t ≡ t)
 in_lowercase t b e = (
-  λ h. all_keep to_ascii_lowercase (λ c. not (is_ascii_uppercase c)) lower_is is_lower t (sym e ∙ h),
+  λ h. all_keep to_ascii_lowercase
+      (λ c. not (is_ascii_uppercase c)) lower_is is_lower t (sym e ∙ h),
   λ h. e ∙ all_kept to_ascii_lowercase (λ c. not (is_ascii_uppercase c)) lower_is is_lower t h,
 )
 
-pub in_uppercase : (t : List ℕ) (b : Bool) → b ≡ list_all (λ c. not (is_ascii_lowercase c)) t → IsTrue b ↔ (uppercase t ≡ t)
+pub in_uppercase : (t : List ℕ) (b : Bool) → b ≡ list_all (λ c. not (is_ascii_lowercase c)) t
+    → IsTrue b ↔ (uppercase t ≡ t)
 in_uppercase t b e = (
-  λ h. all_keep to_ascii_uppercase (λ c. not (is_ascii_lowercase c)) upper_is is_upper t (sym e ∙ h),
+  λ h. all_keep to_ascii_uppercase
+      (λ c. not (is_ascii_lowercase c)) upper_is is_upper t (sym e ∙ h),
   λ h. e ∙ all_kept to_ascii_uppercase (λ c. not (is_ascii_lowercase c)) upper_is is_upper t h,
 )
 
@@ -88,9 +98,12 @@ same_front (x ∷ a) (y ∷ b) c d n e =
 from_place : (from to : ℕ) (t : List ℕ) → from ≤ to → drop from t ≡ between from to t ++ drop to t
 from_place from to t le =
     sym (take-append-drop (to - from) (drop from t))
-    ∙ ap (λ u. between from to t ++ u) (drop-drop (to - from) from t ∙ (let n : from + (to - from) ≡ to = omega arith in ap (λ k. drop k t) n))
+    ∙ ap (λ u. between from to t ++ u)
+    (drop-drop (to - from) from t
+    ∙ (let n : from + (to - from) ≡ to = omega arith in ap (λ k. drop k t) n))
 
-module _ (ends : Ends) (t : List ℕ) (script : ends.extlang ≤ ends.script) (region : ends.script ≤ ends.region) where
+module _ (ends : Ends) (t : List ℕ) (script : ends.extlang ≤ ends.script)
+    (region : ends.script ≤ ends.region) where
   abbrev pub A : List ℕ
   A = take ends.extlang t
 
@@ -118,13 +131,17 @@ module _ (ends : Ends) (t : List ℕ) (script : ends.extlang ≤ ends.script) (r
   grouped : (a b c d e : List ℕ) → a ++ b ++ c ++ d ++ e ≡ a ++ (b ++ (c ++ (d ++ e)))
   grouped a b c d e = simp append_assoc
 
-  pub in_case_there : lowercase A ≡ A → uppercase B ≡ B → lowercase C ≡ C → uppercase D ≡ D → lowercase Z ≡ Z → in_case ends t ≡ t
+  pub in_case_there : lowercase A ≡ A → uppercase B ≡ B → lowercase C ≡ C → uppercase D ≡ D
+      → lowercase Z ≡ Z → in_case ends t ≡ t
   in_case_there a b c d z = (λ i. a i ++ b i ++ c i ++ d i ++ z i) ∙ grouped A B C D Z ∙ sections
 
   pub there_in_case : in_case ends t ≡ t
-      → (lowercase A ≡ A) × (uppercase B ≡ B) × (lowercase C ≡ C) × (uppercase D ≡ D) × (lowercase Z ≡ Z)
+      → (lowercase A ≡ A) × (uppercase B ≡ B) × (lowercase C ≡ C) × (uppercase D ≡ D)
+      × (lowercase Z ≡ Z)
   there_in_case h =
-      let whole = sym (grouped (lowercase A) (uppercase B) (lowercase C) (uppercase D) (lowercase Z)) ∙ h ∙ sym sections in
+      let whole =
+      sym (grouped (lowercase A) (uppercase B) (lowercase C) (uppercase D) (lowercase Z)) ∙ h
+      ∙ sym sections in
       let one = same_front (lowercase A) A _ _ (length-map A to_ascii_lowercase) whole in
       let two = same_front (uppercase B) B _ _ (length-map B to_ascii_uppercase) one.1 in
       let three = same_front (lowercase C) C _ _ (length-map C to_ascii_lowercase) two.1 in
@@ -132,12 +149,14 @@ module _ (ends : Ends) (t : List ℕ) (script : ends.extlang ≤ ends.script) (r
       (one.0, two.0, three.0, four.0, four.1)
 
 -- the two pairs of sections and the last, by the place behind the capital
-module _ (ends : Ends) (t : List ℕ) (script : ends.extlang ≤ ends.script) (region : ends.script ≤ ends.region)
+module _ (ends : Ends) (t : List ℕ) (script : ends.extlang ≤ ends.script)
+    (region : ends.script ≤ ends.region)
     (cap : ℕ) (is : cap ≡ capital ends) where
   abbrev pub FirstPair : Type 0
   FirstPair =
       (lowercase (take ends.extlang t) ≡ take ends.extlang t)
-      × (uppercase (take (cap - ends.extlang) (drop ends.extlang t)) ≡ take (cap - ends.extlang) (drop ends.extlang t))
+      × (uppercase (take (cap - ends.extlang) (drop ends.extlang t))
+      ≡ take (cap - ends.extlang) (drop ends.extlang t))
 
   abbrev pub SecondPair : Type 0
   SecondPair =
@@ -146,27 +165,41 @@ module _ (ends : Ends) (t : List ℕ) (script : ends.extlang ≤ ends.script) (r
 
   abbrev pub Last : Type 0
   Last =
-      lowercase (take (length t - ends.region) (drop ends.region t)) ≡ take (length t - ends.region) (drop ends.region t)
+      lowercase (take (length t - ends.region) (drop ends.region t))
+      ≡ take (length t - ends.region) (drop ends.region t)
 
   pub pairs_there : FirstPair → SecondPair → Last → in_case ends t ≡ t
   pairs_there a c z =
       in_case_there ends t script region a.0
-      (subst (λ k. uppercase (take (k - ends.extlang) (drop ends.extlang t)) ≡ take (k - ends.extlang) (drop ends.extlang t)) is a.1)
-      (subst (λ k. lowercase (take (ends.script - k) (drop k t)) ≡ take (ends.script - k) (drop k t)) is c.0)
+      (subst (λ k. uppercase (take (k - ends.extlang) (drop ends.extlang t))
+      ≡ take (k - ends.extlang) (drop ends.extlang t)) is a.1)
+      (subst
+      (λ k. lowercase (take (ends.script - k) (drop k t))
+      ≡ take (ends.script - k) (drop k t)) is c.0)
       c.1 (subst (λ u. lowercase u ≡ u) (take_rest t ends.region) z)
 
   pub there_pairs : in_case ends t ≡ t → FirstPair × SecondPair × Last
   there_pairs h =
       let all = there_in_case ends t script region h in (
-        (all.0, subst (λ k. uppercase (take (k - ends.extlang) (drop ends.extlang t)) ≡ take (k - ends.extlang) (drop ends.extlang t)) (sym is) all.1),
-        (subst (λ k. lowercase (take (ends.script - k) (drop k t)) ≡ take (ends.script - k) (drop k t)) (sym is) all.2, all.3),
+        (
+          all.0,
+          subst (λ k. uppercase (take (k - ends.extlang) (drop ends.extlang t))
+              ≡ take (k - ends.extlang) (drop ends.extlang t)) (sym is) all.1,
+        ),
+        (
+          subst (λ k. lowercase (take (ends.script - k) (drop k t))
+              ≡ take (ends.script - k) (drop k t)) (sym is) all.2,
+          all.3,
+        ),
         subst (λ u. lowercase u ≡ u) (sym (take_rest t ends.region)) all.4,
       )
 
 -- ---- the three kinds of tags
 
-pub text_of_result : {A : Type 0} (t rest : List ℕ) (r : Result A ParseError) (b : Bool) → grandfathered t ≡ None
-    → StandsBehindX rest t → MatchResult r (λ _. IsTrue (list_all is_private (pieces rest))) (IsFaultBehindX rest)
+pub text_of_result : {A : Type 0} (t rest : List ℕ) (r : Result A ParseError) (b : Bool)
+    → grandfathered t ≡ None
+    → StandsBehindX rest t
+    → MatchResult r (λ _. IsTrue (list_all is_private (pieces rest))) (IsFaultBehindX rest)
     → b ≡ is_ok r → IsTrue b ↔ IsText t
 text_of_result t rest (Ok x) b none stands h e = (
   λ _. (Whole (lowercase t), private_use none rest stands h refl),
@@ -181,14 +214,21 @@ pub fault_of_scan : (t : List ℕ) (fault : ParseError) → grandfathered t ≡ 
     → scanned (pieces (lowercase t)) ≡ Err fault → IsFaultOf t fault
 fault_of_scan t fault none otherwise is =
     in_pieces none otherwise
-    (subst (λ q. MatchResult q (Scanned (pieces (lowercase t))) (IsFaultOfPieces (pieces (lowercase t)))) is
+    (subst
+    (λ q. MatchResult q (Scanned (pieces (lowercase t)))
+    (IsFaultOfPieces (pieces (lowercase t)))) is
     (scanned_law (pieces (lowercase t)) (some_piece (lowercase t))))
 
-pub text_of_scan : (t : List ℕ) (r : Result Ends ParseError) (b : Bool) → grandfathered t ≡ None → BeginsOtherwise t
+pub text_of_scan : (t : List ℕ) (r : Result Ends ParseError) (b : Bool) → grandfathered t ≡ None
+    → BeginsOtherwise t
     → r ≡ scanned (pieces (lowercase t)) → b ≡ is_ok r → IsTrue b ↔ IsText t
 text_of_scan t (Ok ends) b none otherwise is e =
     let s = was_scanned t ends (sym is) in (
-      λ _. (Plain s.parts, langtag none otherwise s.parts (record { shapes = s.shapes; in_order = s.in_order }) refl),
+      λ _. (
+        Plain s.parts,
+        langtag none otherwise s.parts
+            (record { shapes = s.shapes; in_order = s.in_order }) refl,
+      ),
       λ _. e,
     )
 text_of_scan t (Err fault) b none otherwise is e = (
@@ -204,7 +244,8 @@ pub print_of_scan : (t : List ℕ) (ends : Ends) → grandfathered t ≡ None �
     → (is : scanned (pieces (lowercase t)) ≡ Ok ends) → (in_case ends t ≡ t) ↔ IsPrint t
 print_of_scan t ends none otherwise is =
     let s = was_scanned t ends is in
-    let tag : IsTagOf t (Plain s.parts) = langtag none otherwise s.parts (record { shapes = s.shapes; in_order = s.in_order }) refl in
+    let tag : IsTagOf t (Plain s.parts) =
+    langtag none otherwise s.parts (record { shapes = s.shapes; in_order = s.in_order }) refl in
     let same = scanned-case t ends is t (in_case ends t) refl refl in
     let both = print_of t (Plain s.parts) tag in
     (λ h. both.0 (sym same ∙ h), λ h. same ∙ both.1 h)
@@ -214,12 +255,15 @@ no_print t fault is h = never_both t h.0 fault h.1 is
 
 -- ---- private use, and grandfathered texts
 
-module _ {A : Type 0} (t rest : List ℕ) (r : Result A ParseError) (none : grandfathered t ≡ None) (stands : StandsBehindX rest t)
-    (h : MatchResult r (λ _. IsTrue (list_all is_private (pieces rest))) (IsFaultBehindX rest)) where
+module _ {A : Type 0} (t rest : List ℕ) (r : Result A ParseError) (none : grandfathered t ≡ None)
+    (stands : StandsBehindX rest t)
+    (h : MatchResult r (λ _. IsTrue (list_all is_private (pieces rest)))
+    (IsFaultBehindX rest)) where
   pub private_print : is_ok r ≡ true → (lowercase t ≡ t) ↔ IsPrint t
   private_print e = by r h e
     where
-      by : (q : Result A ParseError) → MatchResult q (λ _. IsTrue (list_all is_private (pieces rest))) (IsFaultBehindX rest)
+      by : (q : Result A ParseError)
+          → MatchResult q (λ _. IsTrue (list_all is_private (pieces rest))) (IsFaultBehindX rest)
           → is_ok q ≡ true → (lowercase t ≡ t) ↔ IsPrint t
       by (Ok x) k f = print_of t (Whole (lowercase t)) (private_use none rest stands k refl)
       by (Err fault) k f = absurd (let clash : true ≡ false = sym f in cc)
@@ -227,16 +271,19 @@ module _ {A : Type 0} (t rest : List ℕ) (r : Result A ParseError) (none : gran
   pub no_private_print : is_ok r ≡ false → IsPrint t → ⊥
   no_private_print e = by r h e
     where
-      by : (q : Result A ParseError) → MatchResult q (λ _. IsTrue (list_all is_private (pieces rest))) (IsFaultBehindX rest)
+      by : (q : Result A ParseError)
+          → MatchResult q (λ _. IsTrue (list_all is_private (pieces rest))) (IsFaultBehindX rest)
           → is_ok q ≡ false → IsPrint t → ⊥
       by (Ok x) k f is = let clash : true ≡ false = f in cc
       by (Err fault) k f is = no_print t fault (behind_x none rest stands k) is
 
-pub is_grandfathered_text : (t : List ℕ) (o : Option (Bor (List ℕ))) → option_copied o ≡ grandfathered t → is_some o ≡ true → IsText t
+pub is_grandfathered_text : (t : List ℕ) (o : Option (Bor (List ℕ)))
+    → option_copied o ≡ grandfathered t → is_some o ≡ true → IsText t
 is_grandfathered_text t None e f = let clash : true ≡ false = sym f in cc
 is_grandfathered_text t (Some x) e f = (Whole x.now, whole x.now (sym e) refl)
 
-pub no_grandfathered : (t : List ℕ) (o : Option (Bor (List ℕ))) → option_copied o ≡ grandfathered t → is_some o ≡ false
+pub no_grandfathered : (t : List ℕ) (o : Option (Bor (List ℕ))) → option_copied o ≡ grandfathered t
+    → is_some o ≡ false
     → grandfathered t ≡ None
 no_grandfathered t None e f = sym e
 no_grandfathered t (Some x) e f = let clash : true ≡ false = f in cc

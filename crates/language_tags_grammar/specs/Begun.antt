@@ -1,4 +1,5 @@
--- Pieces that begin a langtag: those of its parts, or those and a last piece with nothing behind it.
+-- Pieces that begin a langtag: those of its parts, or those and a last piece with nothing behind
+-- it.
 use Rattle.std.specs.Prelude.{◌≡◌, ℕ, ◌≤◌, List, [], ◌∷◌, ◌++◌, length, map, IsTrue}
 use Rattle.std.specs.List.{list_all}
 use Rattle.std.specs.Str.{byte}

@@ -11,5 +11,6 @@ capital ends = min ends.script (ends.extlang + 2)
 abbrev pub in_case : Ends → List ℕ → List ℕ
 in_case ends text =
     lowercase (take ends.extlang text) ++ uppercase (between ends.extlang (capital ends) text)
-    ++ lowercase (between (capital ends) ends.script text) ++ uppercase (between ends.script ends.region text)
+    ++ lowercase (between (capital ends) ends.script text)
+    ++ uppercase (between ends.script ends.region text)
     ++ lowercase (drop ends.region text)

@@ -1,5 +1,6 @@
 -- The grandfathered tags: RFC 5646, section 2.1, `irregular` and `regular`.
-use Rattle.std.specs.Prelude.{ℕ, Bool, ◌&&◌, ◌||◌, ◌==◌, List, [], ◌∷◌, Option, codes, length, slice_index}
+use Rattle.std.specs.Prelude.{ℕ, Bool, ◌&&◌, ◌||◌, ◌==◌, List, [], ◌∷◌, Option, codes, length}
+use Rattle.std.specs.Prelude.{slice_index}
 use Rattle.std.specs.Int.{is_in_range}
 use Rattle.std.specs.List.{find, list_any}
 use Rattle.std.specs.Str.{byte, bytes_eq}
@@ -27,5 +28,6 @@ abbrev pub may_be_grandfathered : List ℕ → Bool
 may_be_grandfathered text =
     let first = slice_index text 0 in
     is_in_range 5 11 (length text)
-    && (first == byte "a" || first == byte "c" || first == byte "e" || first == byte "i" || first == byte "n" || first == byte "s"
+    && (first == byte "a" || first == byte "c" || first == byte "e" || first == byte "i"
+    || first == byte "n" || first == byte "s"
     || first == byte "z")

@@ -1,10 +1,12 @@
 -- How a tag is kept: its text, and for a langtag where each part ends.
-use Rattle.std.specs.Prelude.{◌≡◌, ℕ, ◌+◌, ◌-◌, List, [], ◌∷◌, Option, Some, None, length, take, drop}
+use Rattle.std.specs.Prelude.{◌≡◌, ℕ, ◌+◌, ◌-◌, List, [], ◌∷◌, Option, Some, None, length, take}
+use Rattle.std.specs.Prelude.{drop}
 use Rattle.std.specs.List.{flat_map}
 use Rattle.std.specs.Str.{IsAscii}
 use Rattle.language_tags_grammar.specs.Pieces.{dashed, joined, pieces}
 use Rattle.language_tags_grammar.specs.Shapes.{AreParts}
-use Rattle.language_tags_grammar.specs.Tag.{Extension, Parts, Tag, Whole, Plain, at_most_one, extension_pieces, written}
+use Rattle.language_tags_grammar.specs.Tag.{Extension, Parts, Tag, Whole, Plain, at_most_one}
+use Rattle.language_tags_grammar.specs.Tag.{extension_pieces, written}
 use Rattle.language_tags_grammar.specs.declared.ends.Ends.{Ends}
 
 -- a text from one place to another
@@ -27,7 +29,8 @@ pub record Grouped : Type 0 where
 
 abbrev pub put : List ℕ → Grouped → Grouped
 put [] g = record { front = [] ∷ g.front; extensions = g.extensions }
-put (c ∷ []) g = record { front = []; extensions = record { singleton = c; content = g.front } ∷ g.extensions }
+put (c ∷ []) g =
+    record { front = []; extensions = record { singleton = c; content = g.front } ∷ g.extensions }
 put (c ∷ d ∷ p) g = record { front = (c ∷ d ∷ p) ∷ g.front; extensions = g.extensions }
 
 abbrev pub grouped : List (List ℕ) → Grouped
@@ -49,14 +52,16 @@ abbrev pub tag_at : Option Ends → List ℕ → Tag
 tag_at None text = Whole text
 tag_at (Some ends) text = Plain (parts_at ends text)
 
--- each part ends as many bytes behind the part before it as its pieces have, with a dash before each
+-- each part ends as many bytes behind the part before it as its pieces have, with a dash before
+-- each
 pub record EndAt (p : Parts) (ends : Ends) : Type 0 where
   pub language : ends.language ≡ length p.language
   pub extlang : ends.extlang ≡ ends.language + length (dashed p.extlangs)
   pub script : ends.script ≡ ends.extlang + length (dashed (at_most_one p.script))
   pub region : ends.region ≡ ends.script + length (dashed (at_most_one p.region))
   pub variant : ends.variant ≡ ends.region + length (dashed p.variants)
-  pub extension : ends.extension ≡ ends.variant + length (dashed (flat_map extension_pieces p.extensions))
+  pub extension : ends.extension ≡ ends.variant
+      + length (dashed (flat_map extension_pieces p.extensions))
 
 -- the text is that of the parts
 pub record KeepsParts (text : List ℕ) (ends : Ends) (p : Parts) : Type 0 where

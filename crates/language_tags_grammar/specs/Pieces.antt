@@ -1,4 +1,5 @@
--- Texts in pieces. A text is its bytes in UTF-8; of a tag's text, which is ASCII, these are its characters.
+-- Texts in pieces. A text is its bytes in UTF-8; of a tag's text, which is ASCII, these are its
+-- characters.
 use Rattle.std.specs.Prelude.{ℕ, Bool, ◌==◌, List, [], ◌∷◌, ◌++◌, map, Option, Some, None}
 use Rattle.std.specs.Char.{to_ascii_lowercase, to_ascii_uppercase}
 use Rattle.std.specs.List.{slice_split, join_with_byte}
@@ -24,7 +25,8 @@ abbrev pub part_text : List (List ℕ) → Option (List ℕ)
 part_text [] = None
 part_text (p ∷ ps) = Some (joined (p ∷ ps))
 
--- case isn't significant (RFC 5646, section 2.1.1): a text in lower case, in upper case, and with a first capital
+-- case isn't significant (RFC 5646, section 2.1.1): a text in lower case, in upper case, and with a
+-- first capital
 abbrev pub lowercase : List ℕ → List ℕ
 lowercase text = map to_ascii_lowercase text
 

@@ -1,15 +1,26 @@
--- The steps of the scanner, over pieces in lower case: its functions' exact answers. The laws of `TagOf` and `TagFault` are
--- proved of them, and no public contract cites them.
-use Rattle.std.specs.Prelude.{ℕ, zero, suc, ◌+◌, Bool, ◌&&◌, ◌||◌, ◌==◌, nat_le, nat_lt, if◌then◌else◌, List, [], ◌∷◌, length, slice_index, Result, Ok, Err}
+-- The steps of the scanner, over pieces in lower case: its functions' exact answers. The laws of
+-- `TagOf` and `TagFault` are proved of them, and no public contract cites them.
+use Rattle.std.specs.Prelude.{ℕ, zero, suc, ◌+◌, Bool, ◌&&◌, ◌||◌, ◌==◌, nat_le, nat_lt}
+use Rattle.std.specs.Prelude.{if◌then◌else◌, List, [], ◌∷◌, length, slice_index, Result, Ok, Err}
 use Rattle.std.specs.Char.{is_ascii_digit, is_ascii_lowercase}
 use Rattle.std.specs.List.{list_all}
 use Rattle.std.specs.Str.{byte}
-use Rattle.language_tags_grammar.specs.Shapes.{is_small, is_extlang, is_variant, is_content, is_private}
+use Rattle.language_tags_grammar.specs.Shapes.{is_small, is_extlang, is_variant, is_content}
+use Rattle.language_tags_grammar.specs.Shapes.{is_private}
 use Rattle.language_tags_grammar.specs.declared.error.ParseError.{ParseError}
-use Rattle.language_tags_grammar.specs.declared.error.ParseError.TheVariants.{EmptyExtension, EmptyPrivateUse, InvalidSubtag, InvalidLanguage, SubtagTooLong, EmptySubtag, TooManyExtlangs}
+use Rattle.language_tags_grammar.specs.declared.error.ParseError.TheVariants.{EmptyExtension}
+use Rattle.language_tags_grammar.specs.declared.error.ParseError.TheVariants.{EmptyPrivateUse}
+use Rattle.language_tags_grammar.specs.declared.error.ParseError.TheVariants.{InvalidSubtag}
+use Rattle.language_tags_grammar.specs.declared.error.ParseError.TheVariants.{InvalidLanguage}
+use Rattle.language_tags_grammar.specs.declared.error.ParseError.TheVariants.{SubtagTooLong}
+use Rattle.language_tags_grammar.specs.declared.error.ParseError.TheVariants.{EmptySubtag}
+use Rattle.language_tags_grammar.specs.declared.error.ParseError.TheVariants.{TooManyExtlangs}
 use Rattle.language_tags_grammar.specs.declared.ends.Ends.{Ends}
 use Rattle.language_tags_grammar.specs.declared.stage.Stage.{Stage}
-use Rattle.language_tags_grammar.specs.declared.stage.Stage.TheVariants.{Start, LongLanguage, Extlangs, Script, Region, Variant, Singleton, Extension, X, Private}
+use Rattle.language_tags_grammar.specs.declared.stage.Stage.TheVariants.{Start, LongLanguage}
+use Rattle.language_tags_grammar.specs.declared.stage.Stage.TheVariants.{Extlangs, Script, Region}
+use Rattle.language_tags_grammar.specs.declared.stage.Stage.TheVariants.{Variant, Singleton}
+use Rattle.language_tags_grammar.specs.declared.stage.Stage.TheVariants.{Extension, X, Private}
 
 -- four letters; two letters or three digits
 abbrev pub is_small_script : List ℕ → Bool
@@ -17,7 +28,8 @@ is_small_script piece = length piece == 4 && list_all is_ascii_lowercase piece
 
 abbrev pub is_small_region : List ℕ → Bool
 is_small_region piece =
-    (length piece == 2 && list_all is_ascii_lowercase piece) || (length piece == 3 && list_all is_ascii_digit piece)
+    (length piece == 2 && list_all is_ascii_lowercase piece)
+    || (length piece == 3 && list_all is_ascii_digit piece)
 
 abbrev pub is_single : List ℕ → Bool
 is_single piece = length piece == 1 && list_all is_small piece
@@ -25,7 +37,8 @@ is_single piece = length piece == 1 && list_all is_small piece
 -- the stage behind a piece, by the stage before it
 abbrev pub opening : List ℕ → Result Stage ParseError
 opening piece =
-    if is_single piece then (if slice_index piece 0 == byte "x" then Ok X else Ok Singleton) else Err InvalidSubtag
+    if is_single piece then
+    (if slice_index piece 0 == byte "x" then Ok X else Ok Singleton) else Err InvalidSubtag
 
 abbrev pub behind_region : List ℕ → Result Stage ParseError
 behind_region piece = if is_variant piece then Ok Variant else opening piece
@@ -38,11 +51,14 @@ behind_extlangs piece = if is_small_script piece then Ok Script else behind_scri
 
 abbrev pub behind_extlang : ℕ → List ℕ → Result Stage ParseError
 behind_extlang n piece =
-    if is_extlang piece then (if nat_lt n 3 then Ok (Extlangs (n + 1)) else Err TooManyExtlangs) else behind_extlangs piece
+    if is_extlang piece then
+    (if nat_lt n 3 then Ok (Extlangs (n + 1)) else Err TooManyExtlangs) else
+    behind_extlangs piece
 
 abbrev pub behind_singleton : List ℕ → Result Stage ParseError
 behind_singleton piece =
-    if is_content piece then Ok Extension else (if is_single piece then Err EmptyExtension else Err InvalidSubtag)
+    if is_content piece then Ok Extension else
+    (if is_single piece then Err EmptyExtension else Err InvalidSubtag)
 
 abbrev pub behind_content : List ℕ → Result Stage ParseError
 behind_content piece = if is_content piece then Ok Extension else opening piece
@@ -107,7 +123,8 @@ at_last Extension ends = Ok ends
 at_last Private ends = Ok ends
 
 -- the answer of the next step, or the fault of this one
-abbrev pub and_then : {A B : Type 0} → (A → Result B ParseError) → Result A ParseError → Result B ParseError
+abbrev pub and_then : {A B : Type 0} → (A → Result B ParseError) → Result A ParseError
+    → Result B ParseError
 and_then next (Ok x) = next x
 and_then next (Err fault) = Err fault
 
@@ -115,7 +132,8 @@ and_then next (Err fault) = Err fault
 abbrev pub scanned_from : Stage → ℕ → Ends → List (List ℕ) → Result Ends ParseError
 scanned_from stage n ends [] = at_last stage ends
 scanned_from stage n ends (p ∷ ps) =
-    and_then (λ next. scanned_from next (n + length p + 1) (ends_at ends next (n + length p)) ps) (stage_after stage p)
+    and_then (λ next. scanned_from next (n + length p + 1) (ends_at ends next (n + length p)) ps)
+    (stage_after stage p)
 
 abbrev pub scanned : List (List ℕ) → Result Ends ParseError
 scanned ps = scanned_from Start 0 no_ends ps

@@ -1,7 +1,8 @@
--- The shapes of a tag's parts (RFC 5646, section 2.1), in the case that section 2.1.1 recommends: lower case, but for the
--- script, whose first letter is a capital, and the region, in upper case. Those of a script, a
--- region and a variant are of `tinystr`.
-use Rattle.std.specs.Prelude.{◌≡◌, ℕ, ◌≤◌, Bool, ◌&&◌, ◌==◌, not, ◌⊎◌, List, [], length, IsTrue, IfSome}
+-- The shapes of a tag's parts (RFC 5646, section 2.1), in the case that section 2.1.1 recommends:
+-- lower case, but for the script, whose first letter is a capital, and the region, in upper case.
+-- Those of a script, a region and a variant are of `tinystr`.
+use Rattle.std.specs.Prelude.{◌≡◌, ℕ, ◌≤◌, Bool, ◌&&◌, ◌==◌, not, ◌⊎◌, List, [], length, IsTrue}
+use Rattle.std.specs.Prelude.{IfSome}
 use Rattle.std.specs.Char.{is_ascii_lowercase}
 use Rattle.std.specs.Int.{is_in_range}
 use Rattle.std.specs.List.{AllByRecursion, list_all}

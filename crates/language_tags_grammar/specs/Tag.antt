@@ -1,5 +1,6 @@
 -- What a tag is (RFC 5646, section 2.1), and its text.
-use Rattle.std.specs.Prelude.{ℕ, List, [], ◌∷◌, ◌++◌, Option, Some, None, codes, drop, nat_eq, if◌then◌else◌}
+use Rattle.std.specs.Prelude.{ℕ, List, [], ◌∷◌, ◌++◌, Option, Some, None, codes, drop, nat_eq}
+use Rattle.std.specs.Prelude.{if◌then◌else◌}
 use Rattle.std.specs.List.{flat_map, starts_with}
 use Rattle.std.specs.Str.{byte}
 use Rattle.language_tags_grammar.specs.Pieces.{joined, pieces}
@@ -87,4 +88,6 @@ private_of (Plain p) = p.private
 -- the tag up to its variants
 abbrev pub front_of : Tag → List ℕ
 front_of (Whole text) = text
-front_of (Plain p) = joined (p.language ∷ (p.extlangs ++ (at_most_one p.script ++ (at_most_one p.region ++ p.variants))))
+front_of (Plain p) =
+    joined
+    (p.language ∷ (p.extlangs ++ (at_most_one p.script ++ (at_most_one p.region ++ p.variants))))

@@ -1,5 +1,6 @@
 -- What is wrong with a text that no tag has: RFC 5646, section 2.1, read from the left.
-use Rattle.std.specs.Prelude.{◌≡◌, ◌≢◌, ℕ, ◌+◌, ◌<◌, ◌≤◌, Bool, ◌||◌, false, List, [], length, take, slice_get, Some, None, IsTrue}
+use Rattle.std.specs.Prelude.{◌≡◌, ◌≢◌, ℕ, ◌+◌, ◌<◌, ◌≤◌, Bool, ◌||◌, false, List, [], length, take}
+use Rattle.std.specs.Prelude.{slice_get, Some, None, IsTrue}
 use Rattle.std.specs.List.{list_all}
 use Rattle.language_tags_grammar.specs.Begun.{Begun, EndInThirdExtlang, EndsInSingleton, EndsInX}
 use Rattle.language_tags_grammar.specs.Grandfathered.{grandfathered}
@@ -7,7 +8,15 @@ use Rattle.language_tags_grammar.specs.Pieces.{is_dash, lowercase, pieces}
 use Rattle.language_tags_grammar.specs.Shapes.{is_extlang, is_small}
 use Rattle.language_tags_grammar.specs.TagOf.{BeginsOtherwise, StandsBehindX}
 use Rattle.language_tags_grammar.specs.declared.error.ParseError.{ParseError}
-use Rattle.language_tags_grammar.specs.declared.error.ParseError.TheVariants.{EmptyExtension, EmptyPrivateUse, ForbiddenChar, InvalidSubtag, InvalidLanguage, SubtagTooLong, EmptySubtag, TooManyExtlangs, NoMemory}
+use Rattle.language_tags_grammar.specs.declared.error.ParseError.TheVariants.{EmptyExtension}
+use Rattle.language_tags_grammar.specs.declared.error.ParseError.TheVariants.{EmptyPrivateUse}
+use Rattle.language_tags_grammar.specs.declared.error.ParseError.TheVariants.{ForbiddenChar}
+use Rattle.language_tags_grammar.specs.declared.error.ParseError.TheVariants.{InvalidSubtag}
+use Rattle.language_tags_grammar.specs.declared.error.ParseError.TheVariants.{InvalidLanguage}
+use Rattle.language_tags_grammar.specs.declared.error.ParseError.TheVariants.{SubtagTooLong}
+use Rattle.language_tags_grammar.specs.declared.error.ParseError.TheVariants.{EmptySubtag}
+use Rattle.language_tags_grammar.specs.declared.error.ParseError.TheVariants.{TooManyExtlangs}
+use Rattle.language_tags_grammar.specs.declared.error.ParseError.TheVariants.{NoMemory}
 
 -- from one to eight bytes
 abbrev pub IsSized : List ℕ → Type 0
@@ -31,7 +40,8 @@ IsWrongBehind before piece InvalidLanguage = IsSized piece × (before ≡ [])
 IsWrongBehind before piece EmptyExtension = IsSized piece × IsSecondSingle before piece
 IsWrongBehind before piece TooManyExtlangs = IsSized piece × IsFourthExtlang before piece
 IsWrongBehind before piece InvalidSubtag =
-    IsSized piece × (before ≢ []) × (¬ IsSecondSingle before piece) × (¬ IsFourthExtlang before piece)
+    IsSized piece × (before ≢ []) × (¬ IsSecondSingle before piece)
+    × (¬ IsFourthExtlang before piece)
 IsWrongBehind before piece EmptyPrivateUse = ⊥
 IsWrongBehind before piece ForbiddenChar = ⊥
 IsWrongBehind before piece NoMemory = ⊥

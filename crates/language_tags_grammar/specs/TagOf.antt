@@ -19,7 +19,8 @@ StandsBehindX rest text = lowercase text ≡ codes "x-" ++ rest
 abbrev pub BeginsOtherwise : List ℕ → Type 0
 BeginsOtherwise text = (rest : List ℕ) → lowercase text ≢ codes "x-" ++ rest
 
--- the tag of a text: a grandfathered one in its own spelling, a private use one in lower case, or the parts of a langtag
+-- the tag of a text: a grandfathered one in its own spelling, a private use one in lower case, or
+-- the parts of a langtag
 pub data IsTagOf (text : List ℕ) (tag : Tag) : Type 0 where
   whole : (g : List ℕ) → grandfathered text ≡ Some g → tag ≡ Whole g → IsTagOf text tag
   private_use : grandfathered text ≡ None → (rest : List ℕ) → StandsBehindX rest text

@@ -1,7 +1,15 @@
 -- The errors in words.
 use Rattle.std.specs.Prelude.{ℕ, List, codes}
 use Rattle.language_tags_grammar.specs.declared.error.ParseError.{ParseError}
-use Rattle.language_tags_grammar.specs.declared.error.ParseError.TheVariants.{EmptyExtension, EmptyPrivateUse, ForbiddenChar, InvalidSubtag, InvalidLanguage, SubtagTooLong, EmptySubtag, TooManyExtlangs, NoMemory}
+use Rattle.language_tags_grammar.specs.declared.error.ParseError.TheVariants.{EmptyExtension}
+use Rattle.language_tags_grammar.specs.declared.error.ParseError.TheVariants.{EmptyPrivateUse}
+use Rattle.language_tags_grammar.specs.declared.error.ParseError.TheVariants.{ForbiddenChar}
+use Rattle.language_tags_grammar.specs.declared.error.ParseError.TheVariants.{InvalidSubtag}
+use Rattle.language_tags_grammar.specs.declared.error.ParseError.TheVariants.{InvalidLanguage}
+use Rattle.language_tags_grammar.specs.declared.error.ParseError.TheVariants.{SubtagTooLong}
+use Rattle.language_tags_grammar.specs.declared.error.ParseError.TheVariants.{EmptySubtag}
+use Rattle.language_tags_grammar.specs.declared.error.ParseError.TheVariants.{TooManyExtlangs}
+use Rattle.language_tags_grammar.specs.declared.error.ParseError.TheVariants.{NoMemory}
 
 -- what `ParseError::text` says
 abbrev pub words_of : ParseError → List ℕ

@@ -1,5 +1,6 @@
 -- Two faults of the same rows, other than want of memory, are one.
-use Rattle.std.proofs.Common.{◌≡◌, ◌≢◌, ℕ, zero, suc, ◌<◌, List, [], ◌∷◌, take, Some, refl, sym, ap, ◌∙◌, subst, inl, inr, arith}
+use Rattle.std.proofs.Common.{◌≡◌, ◌≢◌, ℕ, zero, suc, ◌<◌, List, [], ◌∷◌, take, Some, refl, sym, ap}
+use Rattle.std.proofs.Common.{◌∙◌, subst, inl, inr, arith}
 use Rattle.std.specs.List.{slice_get}
 use lib.Seq.{take-take}
 use Rattle.std.proofs.lemmas.Bool.{cases_lt}
@@ -8,7 +9,9 @@ use Rattle.language_tags_registry.specs.Faults.{IsFaultOf, IsFirstFault}
 use Rattle.language_tags_registry.specs.Kinds.{kind_of}
 use Rattle.language_tags_registry.specs.Rows.{AreSound, HasEarlierKey, HasKey, HasValue, rows_of}
 use Rattle.language_tags_registry.specs.declared.error.RegistryError.{RegistryError}
-use Rattle.language_tags_registry.specs.declared.error.RegistryError.TheVariants.{DuplicateKey, BadKey, BadValue, NoMemory}
+use Rattle.language_tags_registry.specs.declared.error.RegistryError.TheVariants.{DuplicateKey}
+use Rattle.language_tags_registry.specs.declared.error.RegistryError.TheVariants.{BadKey, BadValue}
+use Rattle.language_tags_registry.specs.declared.error.RegistryError.TheVariants.{NoMemory}
 use Rattle.language_tags_registry.specs.declared.kind.Kind.{Kind}
 use Rattle.language_tags_registry.specs.declared.kind.RegistryTable.{RegistryTable}
 use Rattle.language_tags_registry.specs.declared.rows.RegistryRows.{RegistryRows}

@@ -1,5 +1,6 @@
 -- Rows make one registry at most, and where none is faulty there is no fault.
-use Rattle.std.proofs.Common.{◌≡◌, ℕ, ◌<◌, List, get_or, length, length-take, get_or-take, Some, refl, sym, ap, ◌∙◌, subst, arith}
+use Rattle.std.proofs.Common.{◌≡◌, ℕ, ◌<◌, List, get_or, length, length-take, get_or-take, Some}
+use Rattle.std.proofs.Common.{refl, sym, ap, ◌∙◌, subst, arith}
 use Rattle.std.specs.List.{slice_get}
 use Rattle.std.proofs.lemmas.Option.{get_or_from_slice_get, slice_get_within}
 use Rattle.writeable_core.specs.declared.text.TextRow.{TextRow}
@@ -8,7 +9,9 @@ use Rattle.language_tags_registry.specs.Kinds.{kind_of}
 use Rattle.language_tags_registry.specs.Registry.{Tables, table_of, value_of}
 use Rattle.language_tags_registry.specs.Rows.{AreSound, HasKey, HasValue, row_key, rows_of}
 use Rattle.language_tags_registry.specs.declared.error.RegistryError.{RegistryError}
-use Rattle.language_tags_registry.specs.declared.error.RegistryError.TheVariants.{DuplicateKey, BadKey, BadValue, NoMemory}
+use Rattle.language_tags_registry.specs.declared.error.RegistryError.TheVariants.{DuplicateKey}
+use Rattle.language_tags_registry.specs.declared.error.RegistryError.TheVariants.{BadKey, BadValue}
+use Rattle.language_tags_registry.specs.declared.error.RegistryError.TheVariants.{NoMemory}
 use Rattle.language_tags_registry.specs.declared.kind.Kind.{Kind}
 use Rattle.language_tags_registry.specs.declared.kind.RegistryTable.{RegistryTable}
 use Rattle.language_tags_registry.specs.declared.rows.RegistryRows.{RegistryRows}

@@ -1,10 +1,23 @@
 -- The tables by their numbers.
-use Rattle.std.proofs.Common.{◌≡◌, ℕ, zero, suc, ◌+◌, ◌<◌, length, List, [], ◌∷◌, Some, get_or, refl, sym, ap, ◌∙◌, arith}
+use Rattle.std.proofs.Common.{◌≡◌, ℕ, zero, suc, ◌+◌, ◌<◌, length, List, [], ◌∷◌, Some, get_or}
+use Rattle.std.proofs.Common.{refl, sym, ap, ◌∙◌, arith}
 use Rattle.std.specs.List.{slice_get}
 use Rattle.language_tags_registry.specs.Kinds.{kind_of}
 use Rattle.language_tags_registry.specs.Registry.{Entry, table_of, tables_at}
 use Rattle.language_tags_registry.specs.declared.kind.RegistryTable.{RegistryTable}
-use Rattle.language_tags_registry.specs.declared.kind.RegistryTable.TheVariants.{Languages, LanguagesPreferred, LanguagesSuppressScript, Extlangs, ExtlangsPreferred, Scripts, ScriptsPreferred, Regions, RegionsPreferred, Variants, VariantsPreferred, GrandfatheredsPreferred, RedundantsPreferred}
+use Rattle.language_tags_registry.specs.declared.kind.RegistryTable.TheVariants.{Languages}
+use Rattle.language_tags_registry.specs.declared.kind.RegistryTable.TheVariants.{LanguagesPreferred}
+use Rattle.language_tags_registry.specs.declared.kind.RegistryTable.TheVariants.{LanguagesSuppressScript}
+use Rattle.language_tags_registry.specs.declared.kind.RegistryTable.TheVariants.{Extlangs}
+use Rattle.language_tags_registry.specs.declared.kind.RegistryTable.TheVariants.{ExtlangsPreferred}
+use Rattle.language_tags_registry.specs.declared.kind.RegistryTable.TheVariants.{Scripts}
+use Rattle.language_tags_registry.specs.declared.kind.RegistryTable.TheVariants.{ScriptsPreferred}
+use Rattle.language_tags_registry.specs.declared.kind.RegistryTable.TheVariants.{Regions}
+use Rattle.language_tags_registry.specs.declared.kind.RegistryTable.TheVariants.{RegionsPreferred}
+use Rattle.language_tags_registry.specs.declared.kind.RegistryTable.TheVariants.{Variants}
+use Rattle.language_tags_registry.specs.declared.kind.RegistryTable.TheVariants.{VariantsPreferred}
+use Rattle.language_tags_registry.specs.declared.kind.RegistryTable.TheVariants.{GrandfatheredsPreferred}
+use Rattle.language_tags_registry.specs.declared.kind.RegistryTable.TheVariants.{RedundantsPreferred}
 
 -- the table of a name is that at its number
 pub table_of-tables_at : (ts : List (List Entry)) (table : RegistryTable)

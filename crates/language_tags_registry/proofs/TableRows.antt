@@ -1,5 +1,7 @@
 -- A table that is filled row by row.
-use Rattle.std.proofs.Common.{◌≡◌, ◌≢◌, ℕ, zero, suc, ◌<◌, Bool, true, false, cond, List, [], ◌∷◌, ◌++◌, map, length, get_or, Option, Some, None, is_none, refl, sym, ap, ◌∙◌, subst, arith}
+use Rattle.std.proofs.Common.{◌≡◌, ◌≢◌, ℕ, zero, suc, ◌<◌, Bool, true, false, cond, List, [], ◌∷◌}
+use Rattle.std.proofs.Common.{◌++◌, map, length, get_or, Option, Some, None, is_none, refl, sym, ap}
+use Rattle.std.proofs.Common.{◌∙◌, subst, arith}
 use Rattle.std.specs.List.{Any}
 use Rattle.std.specs.Option.{option_or}
 use Rattle.std.specs.Str.{bytes_eq}
@@ -11,7 +13,8 @@ use Rattle.std.proofs.lemmas.Slice.Eq.{bytes_eq-Decides}
 use Rattle.writeable_core.specs.declared.text.TextRow.{TextRow}
 use Rattle.language_tags_registry.specs.Kinds.{MeetsAny}
 use Rattle.language_tags_registry.specs.Registry.{Entry, value_of}
-use Rattle.language_tags_registry.specs.Rows.{HasKey, HasValue, AreSound, IsTableOf, entry_of, row_key, row_value}
+use Rattle.language_tags_registry.specs.Rows.{HasKey, HasValue, AreSound, IsTableOf, entry_of}
+use Rattle.language_tags_registry.specs.Rows.{row_key, row_value}
 use Rattle.language_tags_registry.specs.declared.kind.Kind.{Kind}
 use Rattle.language_tags_registry.proofs.Entries.{bytes_eq-sym, value_of-push}
 

@@ -3,9 +3,12 @@ use Rattle.std.specs.Prelude.{◌≡◌, ◌<◌, List, take}
 use Rattle.writeable_core.specs.declared.text.TextRow.{TextRow}
 use Rattle.language_tags_registry.specs.Kinds.{kind_of}
 use Rattle.language_tags_registry.specs.Registry.{Tables, table_of}
-use Rattle.language_tags_registry.specs.Rows.{AreSound, FirstFaultIs, HasEarlierKey, HasNoKey, HasNoValue, IsTableOf, rows_of}
+use Rattle.language_tags_registry.specs.Rows.{AreSound, FirstFaultIs, HasEarlierKey, HasNoKey}
+use Rattle.language_tags_registry.specs.Rows.{HasNoValue, IsTableOf, rows_of}
 use Rattle.language_tags_registry.specs.declared.error.RegistryError.{RegistryError}
-use Rattle.language_tags_registry.specs.declared.error.RegistryError.TheVariants.{DuplicateKey, BadKey, BadValue, NoMemory}
+use Rattle.language_tags_registry.specs.declared.error.RegistryError.TheVariants.{DuplicateKey}
+use Rattle.language_tags_registry.specs.declared.error.RegistryError.TheVariants.{BadKey, BadValue}
+use Rattle.language_tags_registry.specs.declared.error.RegistryError.TheVariants.{NoMemory}
 use Rattle.language_tags_registry.specs.declared.kind.Kind.{Kind}
 use Rattle.language_tags_registry.specs.declared.kind.RegistryTable.{RegistryTable}
 use Rattle.language_tags_registry.specs.declared.rows.RegistryRows.{RegistryRows}

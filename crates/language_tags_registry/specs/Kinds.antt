@@ -9,9 +9,24 @@ use Rattle.language_tags_registry.specs.Registry.{Entry, value_of}
 use Rattle.language_tags_registry.specs.Subtags.{IsLanguage}
 use Rattle.language_tags_registry.specs.declared.kind.Kind.{Kind}
 use Rattle.language_tags_registry.specs.declared.kind.RegistryTable.{RegistryTable}
-use Rattle.language_tags_registry.specs.declared.kind.RegistryTable.TheVariants.{Languages, LanguagesPreferred, LanguagesSuppressScript, Extlangs, ExtlangsPreferred, Scripts, ScriptsPreferred, Regions, RegionsPreferred, Variants, VariantsPreferred, GrandfatheredsPreferred, RedundantsPreferred}
+use Rattle.language_tags_registry.specs.declared.kind.RegistryTable.TheVariants.{Languages}
+use Rattle.language_tags_registry.specs.declared.kind.RegistryTable.TheVariants.{LanguagesPreferred}
+use Rattle.language_tags_registry.specs.declared.kind.RegistryTable.TheVariants.{LanguagesSuppressScript}
+use Rattle.language_tags_registry.specs.declared.kind.RegistryTable.TheVariants.{Extlangs}
+use Rattle.language_tags_registry.specs.declared.kind.RegistryTable.TheVariants.{ExtlangsPreferred}
+use Rattle.language_tags_registry.specs.declared.kind.RegistryTable.TheVariants.{Scripts}
+use Rattle.language_tags_registry.specs.declared.kind.RegistryTable.TheVariants.{ScriptsPreferred}
+use Rattle.language_tags_registry.specs.declared.kind.RegistryTable.TheVariants.{Regions}
+use Rattle.language_tags_registry.specs.declared.kind.RegistryTable.TheVariants.{RegionsPreferred}
+use Rattle.language_tags_registry.specs.declared.kind.RegistryTable.TheVariants.{Variants}
+use Rattle.language_tags_registry.specs.declared.kind.RegistryTable.TheVariants.{VariantsPreferred}
+use Rattle.language_tags_registry.specs.declared.kind.RegistryTable.TheVariants.{GrandfatheredsPreferred}
+use Rattle.language_tags_registry.specs.declared.kind.RegistryTable.TheVariants.{RedundantsPreferred}
 use Rattle.language_tags_registry.specs.declared.kind.Rule.{Rule}
-use Rattle.language_tags_registry.specs.declared.kind.Rule.TheVariants.{AnyText, Language, Extlang, Script, Region, Variant, Grandfathered, WellFormed, Printed}
+use Rattle.language_tags_registry.specs.declared.kind.Rule.TheVariants.{AnyText, Language, Extlang}
+use Rattle.language_tags_registry.specs.declared.kind.Rule.TheVariants.{Script, Region, Variant}
+use Rattle.language_tags_registry.specs.declared.kind.Rule.TheVariants.{Grandfathered, WellFormed}
+use Rattle.language_tags_registry.specs.declared.kind.Rule.TheVariants.{Printed}
 
 -- the text is a tag; it is a tag as that prints
 abbrev pub IsWellFormed : List ℕ → Type 0

@@ -1,8 +1,21 @@
 -- The tables of a registry: the subtags of RFC 5646, section 3.1, and the values that they go to.
-use Rattle.std.specs.Prelude.{ℕ, List, [], ◌∷◌, Option, Some, None, String, slice_index_or, string_bytes, if◌then◌else◌}
+use Rattle.std.specs.Prelude.{ℕ, List, [], ◌∷◌, Option, Some, None, String, slice_index_or}
+use Rattle.std.specs.Prelude.{string_bytes, if◌then◌else◌}
 use Rattle.std.specs.Str.{bytes_eq}
 use Rattle.language_tags_registry.specs.declared.kind.RegistryTable.{RegistryTable}
-use Rattle.language_tags_registry.specs.declared.kind.RegistryTable.TheVariants.{Languages, LanguagesPreferred, LanguagesSuppressScript, Extlangs, ExtlangsPreferred, Scripts, ScriptsPreferred, Regions, RegionsPreferred, Variants, VariantsPreferred, GrandfatheredsPreferred, RedundantsPreferred}
+use Rattle.language_tags_registry.specs.declared.kind.RegistryTable.TheVariants.{Languages}
+use Rattle.language_tags_registry.specs.declared.kind.RegistryTable.TheVariants.{LanguagesPreferred}
+use Rattle.language_tags_registry.specs.declared.kind.RegistryTable.TheVariants.{LanguagesSuppressScript}
+use Rattle.language_tags_registry.specs.declared.kind.RegistryTable.TheVariants.{Extlangs}
+use Rattle.language_tags_registry.specs.declared.kind.RegistryTable.TheVariants.{ExtlangsPreferred}
+use Rattle.language_tags_registry.specs.declared.kind.RegistryTable.TheVariants.{Scripts}
+use Rattle.language_tags_registry.specs.declared.kind.RegistryTable.TheVariants.{ScriptsPreferred}
+use Rattle.language_tags_registry.specs.declared.kind.RegistryTable.TheVariants.{Regions}
+use Rattle.language_tags_registry.specs.declared.kind.RegistryTable.TheVariants.{RegionsPreferred}
+use Rattle.language_tags_registry.specs.declared.kind.RegistryTable.TheVariants.{Variants}
+use Rattle.language_tags_registry.specs.declared.kind.RegistryTable.TheVariants.{VariantsPreferred}
+use Rattle.language_tags_registry.specs.declared.kind.RegistryTable.TheVariants.{GrandfatheredsPreferred}
+use Rattle.language_tags_registry.specs.declared.kind.RegistryTable.TheVariants.{RedundantsPreferred}
 
 -- An entry of a table, in UTF-8. The value is the empty text where the table has none.
 pub record Entry : Type 0 where

@@ -1,11 +1,24 @@
 -- The rows that a registry is made from, and what is wrong with one.
-use Rattle.std.specs.Prelude.{◌≡◌, ◌≢◌, ℕ, List, [], Option, Some, None, All, AllPairs, Any, encode_utf8_all, map, slice_get, take}
+use Rattle.std.specs.Prelude.{◌≡◌, ◌≢◌, ℕ, List, [], Option, Some, None, All, AllPairs, Any}
+use Rattle.std.specs.Prelude.{encode_utf8_all, map, slice_get, take}
 use Rattle.writeable_core.specs.declared.text.TextRow.{TextRow}
 use Rattle.language_tags_registry.specs.Kinds.{Meets, MeetsAny}
 use Rattle.language_tags_registry.specs.Registry.{Entry, value_of}
 use Rattle.language_tags_registry.specs.declared.kind.Kind.{Kind}
 use Rattle.language_tags_registry.specs.declared.kind.RegistryTable.{RegistryTable}
-use Rattle.language_tags_registry.specs.declared.kind.RegistryTable.TheVariants.{Languages, LanguagesPreferred, LanguagesSuppressScript, Extlangs, ExtlangsPreferred, Scripts, ScriptsPreferred, Regions, RegionsPreferred, Variants, VariantsPreferred, GrandfatheredsPreferred, RedundantsPreferred}
+use Rattle.language_tags_registry.specs.declared.kind.RegistryTable.TheVariants.{Languages}
+use Rattle.language_tags_registry.specs.declared.kind.RegistryTable.TheVariants.{LanguagesPreferred}
+use Rattle.language_tags_registry.specs.declared.kind.RegistryTable.TheVariants.{LanguagesSuppressScript}
+use Rattle.language_tags_registry.specs.declared.kind.RegistryTable.TheVariants.{Extlangs}
+use Rattle.language_tags_registry.specs.declared.kind.RegistryTable.TheVariants.{ExtlangsPreferred}
+use Rattle.language_tags_registry.specs.declared.kind.RegistryTable.TheVariants.{Scripts}
+use Rattle.language_tags_registry.specs.declared.kind.RegistryTable.TheVariants.{ScriptsPreferred}
+use Rattle.language_tags_registry.specs.declared.kind.RegistryTable.TheVariants.{Regions}
+use Rattle.language_tags_registry.specs.declared.kind.RegistryTable.TheVariants.{RegionsPreferred}
+use Rattle.language_tags_registry.specs.declared.kind.RegistryTable.TheVariants.{Variants}
+use Rattle.language_tags_registry.specs.declared.kind.RegistryTable.TheVariants.{VariantsPreferred}
+use Rattle.language_tags_registry.specs.declared.kind.RegistryTable.TheVariants.{GrandfatheredsPreferred}
+use Rattle.language_tags_registry.specs.declared.kind.RegistryTable.TheVariants.{RedundantsPreferred}
 use Rattle.language_tags_registry.specs.declared.kind.Rule.{Rule}
 use Rattle.language_tags_registry.specs.declared.rows.RegistryRows.{RegistryRows}
 

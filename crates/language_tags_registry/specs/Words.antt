@@ -1,7 +1,9 @@
 -- The errors in words.
 use Rattle.std.specs.Prelude.{ℕ, List, codes}
 use Rattle.language_tags_registry.specs.declared.error.RegistryError.{RegistryError}
-use Rattle.language_tags_registry.specs.declared.error.RegistryError.TheVariants.{DuplicateKey, BadKey, BadValue, NoMemory}
+use Rattle.language_tags_registry.specs.declared.error.RegistryError.TheVariants.{DuplicateKey}
+use Rattle.language_tags_registry.specs.declared.error.RegistryError.TheVariants.{BadKey, BadValue}
+use Rattle.language_tags_registry.specs.declared.error.RegistryError.TheVariants.{NoMemory}
 
 -- what `RegistryError::text` says
 abbrev pub words_of : RegistryError → List ℕ

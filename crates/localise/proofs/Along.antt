@@ -10,4 +10,9 @@ use Rattle.icu_locale_fallback.specs.Views.{Walk}
 -- the walk from l after k steps
 abbrev pub along : Tables → Locale → ℕ → Walk
 along F l k =
-    record { tables = F; priority = Language; first = first_script F.likely Language l; reached = reached F Language l k }
+    record {
+      tables = F;
+      priority = Language;
+      first = first_script F.likely Language l;
+      reached = reached F Language l k;
+    }

@@ -11,7 +11,8 @@ pub itself : (m : Messages) → StandsFor m m
 itself m = record { rule = refl; lookups = λ key. refl }
 
 -- the form that is asked for by the texts of a request, no function being forced
-pub form_asked : (m : Messages) (context : Option (Bor (List ℕ))) (id : List ℕ) (q : Request) (given : Option ℕ) (found : Option (ℕ × List ℕ))
+pub form_asked : (m : Messages) (context : Option (Bor (List ℕ))) (id : List ℕ) (q : Request)
+    (given : Option ℕ) (found : Option (ℕ × List ℕ))
     → given ≡ None → found ≡ form m given (key_asked context id) q.count
     → option_map (λ s. chars s.now) context ≡ q.context → chars id ≡ q.singular
     → found ≡ form m None (key_of q.context q.singular) q.count

@@ -1,5 +1,6 @@
 -- What is kept of bundles, one more at a time.
-use Rattle.std.proofs.Common.{◌≡◌, ◌≢◌, ℕ, zero, suc, ◌+◌, ◌<◌, List, [], ◌∷◌, ◌++◌, length, Option, Some, take, refl, sym, ap, ◌∙◌, subst, arith}
+use Rattle.std.proofs.Common.{◌≡◌, ◌≢◌, ℕ, zero, suc, ◌+◌, ◌<◌, List, [], ◌∷◌, ◌++◌, length, Option}
+use Rattle.std.proofs.Common.{Some, take, refl, sym, ap, ◌∙◌, subst, arith}
 use Rattle.std.proofs.lemmas.List.Elements.{All-cons, All-nil}
 use Rattle.std.proofs.lemmas.List.Quantifiers.{all_pairs_push}
 use Rattle.std.proofs.lemmas.List.{length-map, length-take-le}
@@ -24,7 +25,8 @@ use Rattle.localise_texts.specs.declared.request.Request.{Request}
 use Rattle.wanted_locale.specs.declared.tables.Tables.{Tables}
 
 -- texts that mean bundles, and one more
-mean-push : (T : Tables) (texts : List BundleText) (bs : List Meaning) (text : BundleText) (b : Meaning)
+mean-push : (T : Tables) (texts : List BundleText) (bs : List Meaning)
+    (text : BundleText) (b : Meaning)
     → AllMean T texts bs → Means T text b → AllMean T (texts ++ text ∷ []) (bs ++ b ∷ [])
 mean-push T [] [] text b h m = (m, tt)
 mean-push T (x ∷ texts) (y ∷ bs) text b h m = (h.0, mean-push T texts bs text b h.1 m)
@@ -68,9 +70,11 @@ keep-all P (x ∷ kept) (y ∷ bs) h all =
 keep-all P [] (y ∷ bs) h all = absurd h
 keep-all P (x ∷ kept) [] h all = absurd h
 
--- what holds of the locale of some bundle that is kept, the one with this number, holds of that of some bundle
+-- what holds of the locale of some bundle that is kept, the one with this number, holds of that of
+-- some bundle
 keep_any_at : (P : Locale → Type 0) (kept bs : List Meaning) (k : ℕ) (m : Meaning) → AllKeep kept bs
-    → k < length kept → slice_index_or kept k m ≡ m → P m.locale → Any (λ (b : Meaning). P b.locale) bs
+    → k < length kept → slice_index_or kept k m ≡ m → P m.locale
+    → Any (λ (b : Meaning). P b.locale) bs
 keep_any_at P [] bs k m h low is p = absurd (omega arith)
 keep_any_at P (x ∷ kept) [] k m h low is p = absurd h
 keep_any_at P (x ∷ kept) (y ∷ bs) zero m h low is p =
@@ -84,7 +88,8 @@ pub keep-any : (P : Locale → Type 0) (kept bs : List Meaning) → AllKeep kept
 keep-any P kept bs h any = keep_any_at P kept bs any.0 any.1 h any.2 any.3 any.4
 
 -- one more bundle is read, for a locale of none before it
-pub read-push : (T : Tables) (texts : List BundleText) (kept : List Meaning) (text : BundleText) (k : Meaning)
+pub read-push : (T : Tables) (texts : List BundleText) (kept : List Meaning)
+    (text : BundleText) (k : Meaning)
     → AreKept T texts kept → IsRead T text k → All (λ (b : Meaning). b.locale ≢ k.locale) kept
     → AreKept T (texts ++ text ∷ []) (kept ++ k ∷ [])
 read-push T texts kept text k all one fresh =
@@ -95,25 +100,35 @@ read-push T texts kept text k all one fresh =
       bundles = all.bundles ++ one.meaning ∷ [];
       are = record {
         mean = mean-push T texts all.bundles text one.meaning all.are.mean one.means;
-        apart = all_pairs_push (λ (earlier later : Meaning). earlier.locale ≢ later.locale) all.bundles one.meaning all.are.apart apart;
+        apart =
+            all_pairs_push (λ (earlier later : Meaning). earlier.locale ≢ later.locale) all.bundles
+            one.meaning all.are.apart apart;
       };
       keep = keep-push kept all.bundles k one.meaning all.keep one.keeps;
     }
 
 -- a form of a bundle that is kept
-numbered-keeps : (i : ℕ) (k b : Meaning) (q : Request) → Keeps k b → numbered i k (form_for k q) ≡ numbered i b (form_for b q)
+numbered-keeps : (i : ℕ) (k b : Meaning) (q : Request) → Keeps k b
+    → numbered i k (form_for k q) ≡ numbered i b (form_for b q)
 numbered-keeps i k b q keeps =
     ap (λ f. numbered i k f) (keeps.forms (key_of q.context q.singular) q.count)
     ∙ ap (λ (p : Patterns). numbered i (record k { patterns = p }) (form_for b q)) keeps.patterns
 
 -- what is kept translates alike
-pub translation-alike : (i : ℕ) (kept bs : List Meaning) (q : Request) (l : Locale) → AllKeep kept bs
+pub translation-alike : (i : ℕ) (kept bs : List Meaning) (q : Request) (l : Locale)
+    → AllKeep kept bs
     → translation_from i kept q l ≡ translation_from i bs q l
 translation-alike i [] [] q l h = refl
 translation-alike i (x ∷ kept) (y ∷ bs) q l h =
-    ap (λ (m : Locale). if same_locale m l then numbered i x (form_for x q) else translation_from (i + 1) kept q l) h.0.locale
-    ∙ ap (λ (t : Option Translation). if same_locale y.locale l then t else translation_from (i + 1) kept q l) (numbered-keeps i x y q h.0)
-    ∙ ap (λ (t : Option Translation). if same_locale y.locale l then numbered i y (form_for y q) else t) (translation-alike (i + 1) kept bs q l h.1)
+    ap
+    (λ (m : Locale). if same_locale m l then numbered i x (form_for x q) else translation_from
+    (i + 1) kept q l) h.0.locale
+    ∙ ap (λ (t : Option Translation).
+    if same_locale y.locale l then t else translation_from (i + 1) kept q l)
+    (numbered-keeps i x y q h.0)
+    ∙ ap (λ (t : Option Translation).
+    if same_locale y.locale l then numbered i y (form_for y q) else t)
+    (translation-alike (i + 1) kept bs q l h.1)
 translation-alike i [] (y ∷ bs) q l h = absurd h
 translation-alike i (x ∷ kept) [] q l h = absurd h
 
@@ -131,8 +146,10 @@ read_number T texts i read low are =
     ∙ mean-length T (take i texts) are.bundles are.are.mean ∙ length-take-le i texts (omega arith)
 
 -- a bundle that is faulty by itself is the first that is
-pub fault_of_read : (T : Tables) (texts : List BundleText) (i : ℕ) (read : List Bundle) (number : ℕ) (e : RenderError) (text : BundleText)
-    → slice_get texts i ≡ Some text → i < length texts → AreKept T (take i texts) (meanings_of read) → number ≡ length read
+pub fault_of_read : (T : Tables) (texts : List BundleText) (i : ℕ) (read : List Bundle) (number : ℕ)
+    (e : RenderError) (text : BundleText)
+    → slice_get texts i ≡ Some text → i < length texts → AreKept T (take i texts) (meanings_of read)
+    → number ≡ length read
     → ((earlier : List Meaning) → IsFaultBehind T earlier number text e) → IsBundleFault T texts e
 fault_of_read T texts i read number e text there low are number_is fault = record {
   i = i;
@@ -140,13 +157,18 @@ fault_of_read T texts i read number e text there low are number_is fault = recor
   text_is = there;
   earlier = are.bundles;
   before = are.are;
-  fault = subst (λ n. IsFaultBehind T are.bundles n text e) (number_is ∙ read_number T texts i read low are) (fault are.bundles);
+  fault =
+      subst (λ n. IsFaultBehind T are.bundles n text e)
+      (number_is ∙ read_number T texts i read low are) (fault are.bundles);
 }
 
 -- a bundle for the locale of an earlier one is the first that is faulty
-pub fault_of_locale : (T : Tables) (texts : List BundleText) (i : ℕ) (read : List Bundle) (kept : Meaning) (e : RenderError) (text : BundleText)
-    → slice_get texts i ≡ Some text → i < length texts → AreKept T (take i texts) (meanings_of read) → IsRead T text kept
-    → (e ≡ refusals.DuplicateLocale (length read)) × Any (λ (other : Meaning). other.locale ≡ kept.locale) (meanings_of read)
+pub fault_of_locale : (T : Tables) (texts : List BundleText) (i : ℕ) (read : List Bundle)
+    (kept : Meaning) (e : RenderError) (text : BundleText)
+    → slice_get texts i ≡ Some text → i < length texts → AreKept T (take i texts) (meanings_of read)
+    → IsRead T text kept
+    → (e ≡ refusals.DuplicateLocale (length read))
+    × Any (λ (other : Meaning). other.locale ≡ kept.locale) (meanings_of read)
     → IsBundleFault T texts e
 fault_of_locale T texts i read kept e text there low are one fault =
     let among = keep-any (λ l. l ≡ kept.locale) (meanings_of read) are.bundles are.keep fault.1 in
@@ -157,6 +179,7 @@ fault_of_locale T texts i read kept e text there low are one fault =
       earlier = are.bundles;
       before = are.are;
       fault = in_locale {b = one.meaning} one.means
-          (subst (λ l. Any (λ (other : Meaning). other.locale ≡ l) are.bundles) one.keeps.locale among)
+          (subst (λ l. Any (λ (other : Meaning). other.locale ≡ l) are.bundles)
+          one.keeps.locale among)
           (fault.0 ∙ ap refusals.DuplicateLocale (read_number T texts i read low are));
     }

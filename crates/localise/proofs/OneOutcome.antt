@@ -1,17 +1,21 @@
 -- A walk has one outcome.
-use Rattle.std.proofs.Common.{◌≡◌, ◌≢◌, ℕ, ◌<◌, ◌≤◌, List, Option, Some, None, refl, sym, ap, ap₂, ◌∙◌, subst, arith, inl, inr}
+use Rattle.std.proofs.Common.{◌≡◌, ◌≢◌, ℕ, ◌<◌, ◌≤◌, List, Option, Some, None, refl, sym, ap, ap₂}
+use Rattle.std.proofs.Common.{◌∙◌, subst, arith, inl, inr}
 use Rattle.std.proofs.lemmas.Bool.{cases_lt}
 use Rattle.icu_list.specs.Patterns.{Patterns}
 use Rattle.icu_locale_core.specs.Locale.{Locale, unknown}
 use Rattle.icu_locale_fallback.specs.Tables.{Tables}
 use Rattle.icu_locale_fallback.specs.Walk.{at, NeverRepeats, Repeats}
-use Rattle.localise.specs.Chosen.{Answer, Answers, Outcome, Chosen, Own, Loops, IsOutcome, Translation, answer_of, here}
+use Rattle.localise.specs.Chosen.{Answer, Answers, Outcome, Chosen, Own, Loops, IsOutcome}
+use Rattle.localise.specs.Chosen.{Translation, answer_of, here}
 use Rattle.localise.specs.Meaning.{Meaning}
 use Rattle.localise_texts.specs.declared.request.Request.{Request}
 
-module _ (F : Tables) (bs : List Meaning) (l : Locale) (q : Request) (never : NeverRepeats F l) where
+module _ (F : Tables) (bs : List Meaning) (l : Locale) (q : Request)
+    (never : NeverRepeats F l) where
   -- two locales that translate, each the first, are one
-  chosen_one : (j k : ℕ) (t u : Translation) → IsOutcome F bs l q (Chosen j t) → IsOutcome F bs l q (Chosen k u) → j ≡ k
+  chosen_one : (j k : ℕ) (t u : Translation) → IsOutcome F bs l q (Chosen j t)
+      → IsOutcome F bs l q (Chosen k u) → j ≡ k
   chosen_one j k t u h g =
       elim (cases_lt j k) [
         | inl less ↦ absurd (let none = g.1 j less in let some = h.0 in cc)
@@ -22,7 +26,8 @@ module _ (F : Tables) (bs : List Meaning) (l : Locale) (q : Request) (never : Ne
       ]
 
   -- a walk that comes round doesn't translate before
-  chosen_or_loops : (k : ℕ) (t : Translation) → IsOutcome F bs l q (Chosen k t) → IsOutcome F bs l q Loops → ⊥
+  chosen_or_loops : (k : ℕ) (t : Translation) → IsOutcome F bs l q (Chosen k t)
+      → IsOutcome F bs l q Loops → ⊥
   chosen_or_loops k t h g =
       elim (cases_lt k g.0) [
         | inl less ↦ let none = g.2 k less in let some = h.0 in cc
@@ -41,8 +46,10 @@ module _ (F : Tables) (bs : List Meaning) (l : Locale) (q : Request) (never : Ne
       ]
 
   -- the translation of one place
-  same_translation : (j k : ℕ) (t u : Translation) → j ≡ k → here F bs l q j ≡ Some t → here F bs l q k ≡ Some u → t ≡ u
-  same_translation j k t u same h g = let there : here F bs l q k ≡ Some t = subst (λ i. here F bs l q i ≡ Some t) same h in cc
+  same_translation : (j k : ℕ) (t u : Translation) → j ≡ k → here F bs l q j ≡ Some t
+      → here F bs l q k ≡ Some u → t ≡ u
+  same_translation j k t u same h g = let there : here F bs l q k ≡ Some t =
+      subst (λ i. here F bs l q i ≡ Some t) same h in cc
 
   pub outcome_one : (o r : Outcome) → IsOutcome F bs l q o → IsOutcome F bs l q r → o ≡ r
   outcome_one (Chosen j t) (Chosen k u) h g =
@@ -57,7 +64,8 @@ module _ (F : Tables) (bs : List Meaning) (l : Locale) (q : Request) (never : Ne
   outcome_one Loops Loops h g = refl
 
   -- no answer where the walk comes round
-  pub round_none : (root : Patterns) (a : Answer) → Answers F bs root l q a → IsOutcome F bs l q Loops → ⊥
+  pub round_none : (root : Patterns) (a : Answer) → Answers F bs root l q a
+      → IsOutcome F bs l q Loops → ⊥
   round_none root a answers round =
       let same : answers.outcome ≡ Loops = outcome_one answers.outcome Loops answers.is round in
       let gives : None ≡ Some a = ap (answer_of F root l q) (sym same) ∙ answers.gives in

@@ -1,12 +1,14 @@
 -- The outcome of a walk over bundles.
-use Rattle.std.proofs.Common.{◌≡◌, ◌≢◌, ℕ, ◌+◌, ◌*◌, ◌<◌, ◌≤◌, List, Option, Some, None, refl, sym, ap, ◌∙◌, subst, inl, inr, arith}
+use Rattle.std.proofs.Common.{◌≡◌, ◌≢◌, ℕ, ◌+◌, ◌*◌, ◌<◌, ◌≤◌, List, Option, Some, None, refl, sym}
+use Rattle.std.proofs.Common.{ap, ◌∙◌, subst, inl, inr, arith}
 use Rattle.std.proofs.lemmas.Bool.{cases_lt}
 use Rattle.std.specs.FinMap as map
 use Rattle.icu_list.specs.Patterns.{Patterns}
 use Rattle.icu_locale_core.specs.Locale.{Locale, unknown}
 use Rattle.icu_locale_fallback.specs.Tables.{Tables}
 use Rattle.icu_locale_fallback.specs.Walk.{at, EndsOrRepeats, Repeats, RevisitsOnly, StaysUnknown}
-use Rattle.localise.specs.Chosen.{Outcome, Chosen, Own, Loops, IsOutcome, NoneBelow, Translation, here, translated, translation, untranslated}
+use Rattle.localise.specs.Chosen.{Outcome, Chosen, Own, Loops, IsOutcome, NoneBelow, Translation}
+use Rattle.localise.specs.Chosen.{here, translated, translation, untranslated}
 use Rattle.localise.specs.Given.{IsGivenBy, given}
 use Rattle.localise.specs.Kept.{AreAlike}
 use Rattle.localise.specs.Meaning.{Meaning}
@@ -21,7 +23,8 @@ module _ (F : Tables) (bs : List Meaning) (l : Locale) (q : Request) where
   KnownBelow k = (j : ℕ) → j < k → at F l j ≢ unknown
 
   -- a locale that translates behind locales that don't is new, so that nothing repeats before it
-  chosen_is_new : RevisitsOnly F l → (k : ℕ) (t : Translation) → here F bs l q k ≡ Some t → NoneBelow F bs l q k
+  chosen_is_new : RevisitsOnly F l → (k : ℕ) (t : Translation) → here F bs l q k ≡ Some t
+      → NoneBelow F bs l q k
       → (j : ℕ) → j ≤ k → Repeats F l j → ⊥
   chosen_is_new revisits k t is below j le repeats =
       let back = revisits j k repeats le in
@@ -31,7 +34,8 @@ module _ (F : Tables) (bs : List Meaning) (l : Locale) (q : Request) where
       cc
 
   -- where the unknown locale is reached and none before translates, none translates
-  none_at_all : StaysUnknown F l → (k : ℕ) → here F bs l q k ≡ None → NoneBelow F bs l q k → at F l k ≡ unknown
+  none_at_all : StaysUnknown F l → (k : ℕ) → here F bs l q k ≡ None → NoneBelow F bs l q k
+      → at F l k ≡ unknown
       → (j : ℕ) → here F bs l q j ≡ None
   none_at_all stays k none below end j =
       elim (cases_lt j k) [
@@ -64,7 +68,8 @@ module _ (F : Tables) (bs : List Meaning) (l : Locale) (q : Request) where
       ]
 
 -- bundles that are alike have the same outcome
-pub outcome-alike : (F : Tables) (kept bs : List Meaning) (l : Locale) (q : Request) (o : Outcome) → AreAlike kept bs
+pub outcome-alike : (F : Tables) (kept bs : List Meaning) (l : Locale) (q : Request) (o : Outcome)
+    → AreAlike kept bs
     → IsOutcome F kept l q o → IsOutcome F bs l q o
 outcome-alike F kept bs l q (Chosen k t) alike h =
     (sym (alike q (at F l k)) ∙ h.0, λ j less. sym (alike q (at F l j)) ∙ h.1 j less, h.2)
@@ -73,7 +78,8 @@ outcome-alike F kept bs l q Loops alike h =
     (h.0, h.1, λ j less. sym (alike q (at F l j)) ∙ h.2 j less)
 
 -- what is found where a walk stops is the answer
-pub given_at : (F : Tables) (kept bs : List Meaning) (root : Patterns) (l : Locale) (q : Request) (m : Locale) (k : ℕ) (t : Option Translation)
+pub given_at : (F : Tables) (kept bs : List Meaning) (root : Patterns) (l : Locale) (q : Request)
+    (m : Locale) (k : ℕ) (t : Option Translation)
     → AreAlike kept bs → IsOutcome F kept l q (outcome_at k t) → m ≡ at F l k
     → IsGivenBy F bs root l q (given q (answer_at root q m k t))
 given_at F kept bs root l q m k None alike is there = record {
@@ -96,23 +102,30 @@ given_at F kept bs root l q m k (Some t) alike is there = record {
 }
 
 -- how far a stop is
-pub visited_at : (root : Patterns) (q : Request) (m : Locale) (k : ℕ) (t : Option Translation) → (answer_at root q m k t).visited ≡ k + 1
+pub visited_at : (root : Patterns) (q : Request) (m : Locale) (k : ℕ) (t : Option Translation)
+    → (answer_at root q m k t).visited ≡ k + 1
 visited_at root q m k None = refl
 visited_at root q m k (Some t) = refl
 
 -- the outcome of a walk that stops, as the code has it
-pub stop_here : (F : Tables) (bs : List Meaning) (l : Locale) (q : Request) (k : ℕ) (m : Locale) (stop : Stop) → IsStop bs q k m stop
-    → m ≡ at F l k → RevisitsOnly F l → StaysUnknown F l → NoneBelow F bs l q k → KnownBelow F bs l q k
+pub stop_here : (F : Tables) (bs : List Meaning) (l : Locale) (q : Request) (k : ℕ) (m : Locale)
+    (stop : Stop) → IsStop bs q k m stop
+    → m ≡ at F l k → RevisitsOnly F l → StaysUnknown F l → NoneBelow F bs l q k
+    → KnownBelow F bs l q k
     → IsOutcome F bs l q (outcome_of (Some stop))
 stop_here F bs l q k m stop is there revisits stays below known =
     subst (λ n. IsOutcome F bs l q (outcome_at n stop.translation)) (sym is.steps)
-    (stop_outcome F bs l q revisits stays k stop.translation (is.translation_is ∙ ap (translation bs q) there)
+    (stop_outcome F bs l q revisits stays k stop.translation
+    (is.translation_is ∙ ap (translation bs q) there)
     (λ none. sym there ∙ is.ends none) below known)
 
 -- the outcome at the last locale that is looked at
-pub last_outcome : (F : Tables) (bs : List Meaning) (l : Locale) (q : Request) (k : ℕ) (m : Locale) (o : Option Stop)
-    → k ≡ 4 * map.len F.parents + 5 → IfSome o (IsStop bs q k m) → IfNone o ((translation bs q m ≡ None) × (m ≢ unknown))
-    → m ≡ at F l k → EndsOrRepeats F l → RevisitsOnly F l → StaysUnknown F l → NoneBelow F bs l q k → KnownBelow F bs l q k
+pub last_outcome : (F : Tables) (bs : List Meaning) (l : Locale) (q : Request) (k : ℕ) (m : Locale)
+    (o : Option Stop)
+    → k ≡ 4 * map.len F.parents + 5 → IfSome o (IsStop bs q k m)
+    → IfNone o ((translation bs q m ≡ None) × (m ≢ unknown))
+    → m ≡ at F l k → EndsOrRepeats F l → RevisitsOnly F l → StaysUnknown F l → NoneBelow F bs l q k
+    → KnownBelow F bs l q k
     → IsOutcome F bs l q (outcome_of o)
 last_outcome F bs l q k m (Some stop) whole is none there ends revisits stays below known =
     stop_here F bs l q k m stop is there revisits stays below known

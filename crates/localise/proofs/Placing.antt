@@ -1,5 +1,7 @@
 -- Where the bundle of a locale stands among bundles.
-use Rattle.std.proofs.Common.{◌≡◌, ◌≢◌, ℕ, suc, ◌+◌, ◌-◌, ◌<◌, ◌≤◌, Bool, true, false, cond, List, [], ◌∷◌, ◌++◌, length, Option, Some, None, refl, sym, ap, ◌∙◌, subst, arith}
+use Rattle.std.proofs.Common.{◌≡◌, ◌≢◌, ℕ, suc, ◌+◌, ◌-◌, ◌<◌, ◌≤◌, Bool, true, false, cond, List}
+use Rattle.std.proofs.Common.{[], ◌∷◌, ◌++◌, length, Option, Some, None, refl, sym, ap, ◌∙◌, subst}
+use Rattle.std.proofs.Common.{arith}
 use Rattle.std.proofs.lemmas.Bool.{false≢true}
 use Rattle.std.proofs.lemmas.List.Elements.{All-cons, All-nil}
 use Rattle.std.specs.BTreeMap.{BTreeMap, Updates, get}
@@ -63,7 +65,8 @@ locales_tie a b e =
     (subtags_tie a.script b.script (first_ties _ _ script))
     (subtags_tie a.region b.region (first_ties _ _ region))
     (subtags_tie a.variant b.variant (first_ties _ _ variant))
-    (subtags_tie a.subdivision b.subdivision (second_ties (option_cmp text_cmp a.variant b.variant) _ variant))
+    (subtags_tie a.subdivision b.subdivision
+    (second_ties (option_cmp text_cmp a.variant b.variant) _ variant))
 
 -- the order of locales is total
 locale_cmp_total : IsTotalOrder locale_cmp
@@ -75,15 +78,18 @@ locale_cmp_total =
     (on_total (λ (l : Locale). l.subdivision) (options_total nat_list_cmp_total)))))
 
 -- locales that differ do not tie
-tied_by : (a b : Locale) (r : Ordering) → locale_cmp a b ≡ r → same_locale a b ≡ false → is_eq r ≡ false
-tied_by a b Equal e other = absurd (false≢true (sym other ∙ (same_locale-Decides a b).1 (locales_tie a b e)))
+tied_by : (a b : Locale) (r : Ordering) → locale_cmp a b ≡ r → same_locale a b ≡ false
+    → is_eq r ≡ false
+tied_by a b Equal e other =
+    absurd (false≢true (sym other ∙ (same_locale-Decides a b).1 (locales_tie a b e)))
 tied_by a b Less e other = refl
 tied_by a b Greater e other = refl
 
 -- whether they tie, by whether they are the same
 tied_if : (a b : Locale) (t : Bool) → same_locale a b ≡ t → is_eq (locale_cmp a b) ≡ t
 tied_if a b true same =
-    ap (λ x. is_eq (locale_cmp a x)) (sym ((same_locale-Decides a b).0 same)) ∙ ap is_eq (tied_itself locale_cmp_total a)
+    ap (λ x. is_eq (locale_cmp a x)) (sym ((same_locale-Decides a b).0 same))
+    ∙ ap is_eq (tied_itself locale_cmp_total a)
 tied_if a b false other = tied_by a b (locale_cmp a b) refl other
 
 -- locales tie where they are the same
@@ -93,28 +99,33 @@ same_tie a b = tied_if a b (same_locale a b) refl
 -- ---- places
 
 -- a place by whether the first bundle is the locale's
-within_step : (t : Bool) (i n m : ℕ) (rest : Option ℕ) → (rest ≡ Some n → (i + 1 ≤ n) × (n < (i + 1) + m))
+within_step : (t : Bool) (i n m : ℕ) (rest : Option ℕ)
+    → (rest ≡ Some n → (i + 1 ≤ n) × (n < (i + 1) + m))
     → cond t (Some i) rest ≡ Some n → (i ≤ n) × (n < i + suc m)
 within_step true i n m rest later e = let same : i ≡ n = cc in (omega arith, omega arith)
-within_step false i n m rest later e = let h = later e in let low = h.0 in let high = h.1 in (omega arith, omega arith)
+within_step false i n m rest later e = let h = later e in let low = h.0 in let high = h.1 in
+    (omega arith, omega arith)
 
 -- a place is that of a bundle
 pub place-within : (i : ℕ) (bs : List Meaning) (l : Locale) (n : ℕ) → place_from i bs l ≡ Some n
     → (i ≤ n) × (n < i + length bs)
 place-within i [] l n e = absurd (cc)
 place-within i (b ∷ bs) l n e =
-    within_step (same_locale b.locale l) i n (length bs) (place_from (i + 1) bs l) (place-within (i + 1) bs l n) e
+    within_step (same_locale b.locale l) i n (length bs) (place_from (i + 1) bs l)
+    (place-within (i + 1) bs l n) e
 
 -- the bundle at the place gives the translation, by whether it is the first one
 found_step : (t : Bool) (i n : ℕ) (x b : Meaning) (xs : List Meaning) (q : Request) (l : Locale)
     → (place_from (i + 1) xs l ≡ Some n → slice_get xs (n - (i + 1)) ≡ Some b
     → translation_from (i + 1) xs q l ≡ numbered n b (form_for b q))
     → cond t (Some i) (place_from (i + 1) xs l) ≡ Some n → slice_get (x ∷ xs) (n - i) ≡ Some b
-    → (if t then numbered i x (form_for x q) else translation_from (i + 1) xs q l) ≡ numbered n b (form_for b q)
+    → (if t then numbered i x (form_for x q) else translation_from (i + 1) xs q l)
+    ≡ numbered n b (form_for b q)
 found_step true i n x b xs q l later e there =
     let same : i ≡ n = cc in
     let none : n - i ≡ 0 = omega arith in
-    let first : slice_get (x ∷ xs) 0 ≡ Some b = subst (λ k. slice_get (x ∷ xs) k ≡ Some b) none there in
+    let first : slice_get (x ∷ xs) 0 ≡ Some b =
+    subst (λ k. slice_get (x ∷ xs) k ≡ Some b) none there in
     let it : x ≡ b = cc in
     ap (λ k. numbered k x (form_for x q)) same ∙ ap (λ y. numbered n y (form_for y q)) it
 found_step false i n x b xs q l later e there =
@@ -128,7 +139,8 @@ pub translation-found : (i : ℕ) (bs : List Meaning) (q : Request) (l : Locale)
     → translation_from i bs q l ≡ numbered n b (form_for b q)
 translation-found i [] q l n b e there = absurd (cc)
 translation-found i (x ∷ xs) q l n b e there =
-    found_step (same_locale x.locale l) i n x b xs q l (translation-found (i + 1) xs q l n b) e there
+    found_step (same_locale x.locale l) i n x b xs q l
+    (translation-found (i + 1) xs q l n b) e there
 
 -- a locale without a place has no translation, by whether the first bundle is its own
 missing_step : (t : Bool) (i : ℕ) (x : Meaning) (xs : List Meaning) (q : Request) (l : Locale)
@@ -139,7 +151,8 @@ missing_step true i x xs q l later e = absurd (cc)
 missing_step false i x xs q l later e = later e
 
 -- a locale without a place has no translation
-pub translation-missing : (i : ℕ) (bs : List Meaning) (q : Request) (l : Locale) → place_from i bs l ≡ None
+pub translation-missing : (i : ℕ) (bs : List Meaning) (q : Request) (l : Locale)
+    → place_from i bs l ≡ None
     → translation_from i bs q l ≡ None
 translation-missing i [] q l e = refl
 translation-missing i (x ∷ xs) q l e =
@@ -160,17 +173,22 @@ place-push i [] b l =
     ap (λ n. cond (same_locale b.locale l) (Some n) None) same
 place-push i (x ∷ xs) b l =
     let same : (i + 1) + length xs ≡ i + suc (length xs) = omega arith in
-    push_step (same_locale x.locale l) i (place_from (i + 1) (xs ++ b ∷ []) l) (place_from (i + 1) xs l)
+    push_step (same_locale x.locale l) i (place_from (i + 1) (xs ++ b ∷ []) l)
+    (place_from (i + 1) xs l)
     (cond (same_locale b.locale l) (Some (i + suc (length xs))) None)
     (place-push (i + 1) xs b l
-    ∙ ap (λ n. option_or (place_from (i + 1) xs l) (cond (same_locale b.locale l) (Some n) None)) same)
+    ∙ ap
+    (λ n. option_or (place_from (i + 1) xs l) (cond (same_locale b.locale l) (Some n) None))
+    same)
 
 -- ---- the bundles before one more
 
 -- a locale without a place is no bundle's, by whether it is the first one's
-apart_step : (i : ℕ) (x : Meaning) (xs : List Meaning) (l : Locale) (t : Bool) → same_locale x.locale l ≡ t
+apart_step : (i : ℕ) (x : Meaning) (xs : List Meaning) (l : Locale) (t : Bool)
+    → same_locale x.locale l ≡ t
     → (place_from (i + 1) xs l ≡ None → All (λ (b : Meaning). b.locale ≢ l) xs)
-    → cond t (Some i) (place_from (i + 1) xs l) ≡ None → All (λ (b : Meaning). b.locale ≢ l) (x ∷ xs)
+    → cond t (Some i) (place_from (i + 1) xs l) ≡ None
+    → All (λ (b : Meaning). b.locale ≢ l) (x ∷ xs)
 apart_step i x xs l true is later e = absurd (cc)
 apart_step i x xs l false is later e =
     All-cons (λ (b : Meaning). b.locale ≢ l) x xs
@@ -190,10 +208,13 @@ any_later P x xs h =
     (suc h.0, h.1, omega arith, h.3, h.4)
 
 -- a locale with a place is some bundle's, by whether it is the first one's
-among_step : (i n : ℕ) (x : Meaning) (xs : List Meaning) (l : Locale) (t : Bool) → same_locale x.locale l ≡ t
+among_step : (i n : ℕ) (x : Meaning) (xs : List Meaning) (l : Locale) (t : Bool)
+    → same_locale x.locale l ≡ t
     → (place_from (i + 1) xs l ≡ Some n → Any (λ (b : Meaning). b.locale ≡ l) xs)
-    → cond t (Some i) (place_from (i + 1) xs l) ≡ Some n → Any (λ (b : Meaning). b.locale ≡ l) (x ∷ xs)
-among_step i n x xs l true is later e = (0, x, omega arith, refl, (same_locale-Decides x.locale l).0 is)
+    → cond t (Some i) (place_from (i + 1) xs l) ≡ Some n
+    → Any (λ (b : Meaning). b.locale ≡ l) (x ∷ xs)
+among_step i n x xs l true is later e =
+    (0, x, omega arith, refl, (same_locale-Decides x.locale l).0 is)
 among_step i n x xs l false is later e = any_later (λ (b : Meaning). b.locale ≡ l) x xs (later e)
 
 -- a locale with a place is some bundle's
@@ -229,5 +250,6 @@ places-push bs b old new are none put l =
     ∙ ap (λ t. cond t (Some n) (get locale_cmp old l)) (same_tie b.locale l)
     ∙ ap (λ o. cond (same_locale b.locale l) (Some n) o) (are l)
     ∙ placed_by n (same_locale b.locale l) place
-    (λ same. sym (are l) ∙ ap (get locale_cmp old) (sym ((same_locale-Decides b.locale l).0 same)) ∙ none)
+    (λ same. sym (are l)
+    ∙ ap (get locale_cmp old) (sym ((same_locale-Decides b.locale l).0 same)) ∙ none)
     ∙ sym (place-push 0 bs b l)

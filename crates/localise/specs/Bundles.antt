@@ -1,5 +1,6 @@
 -- What bundles mean, and which of them is the first that is faulty.
-use Rattle.std.specs.Prelude.{◌≡◌, ◌≢◌, ℕ, List, [], ◌∷◌, take, slice_get, Some, None, Any, AllPairs}
+use Rattle.std.specs.Prelude.{◌≡◌, ◌≢◌, ℕ, List, [], ◌∷◌, take, slice_get, Some, None, Any}
+use Rattle.std.specs.Prelude.{AllPairs}
 use Rattle.gettext.specs.Faults.{mo_fault}
 use Rattle.gettext.specs.Mo.{entries}
 use Rattle.gettext.specs.Options.{plain_options}
@@ -37,14 +38,19 @@ module _ (T : Tables) where
     pub mean : AllMean texts bs
     pub apart : AllPairs (λ earlier later. earlier.locale ≢ later.locale) bs
 
-  -- what is wrong with bundle i, behind bundles that mean these: its tag, its catalog, its list or its locale, in this order
-  pub data IsFaultBehind (earlier : List Meaning) (i : ℕ) (text : BundleText) (e : RenderError) : Type 0 where
+  -- what is wrong with bundle i, behind bundles that mean these: its tag, its catalog, its list or
+  -- its locale, in this order
+  pub data IsFaultBehind (earlier : List Meaning) (i : ℕ) (text : BundleText) (e : RenderError) :
+      Type 0 where
     in_tag : {cause : _} → IsTagCause T.registry (encode_utf8_all text.tag) cause
         → e ≡ refusals.Bundle i (Tag cause) → IsFaultBehind earlier i text e
     in_catalog : {l : Locale} {fault : _} → IsLocaleOf T (encode_utf8_all text.tag) l
-        → mo_fault text.mo plain_options (Some fault) → e ≡ refusals.Bundle i (Mo fault) → IsFaultBehind earlier i text e
-    in_list : {l : Locale} {fault : _} → IsLocaleOf T (encode_utf8_all text.tag) l → mo_fault text.mo plain_options None
-        → list_fault (list_texts text.list) ≡ Some fault → e ≡ refusals.Bundle i (ListCause fault) → IsFaultBehind earlier i text e
+        → mo_fault text.mo plain_options (Some fault) → e ≡ refusals.Bundle i (Mo fault)
+        → IsFaultBehind earlier i text e
+    in_list : {l : Locale} {fault : _} → IsLocaleOf T (encode_utf8_all text.tag) l
+        → mo_fault text.mo plain_options None
+        → list_fault (list_texts text.list) ≡ Some fault → e ≡ refusals.Bundle i (ListCause fault)
+        → IsFaultBehind earlier i text e
     in_locale : {b : Meaning} → Means text b → Any (λ other. other.locale ≡ b.locale) earlier
         → e ≡ refusals.DuplicateLocale i → IsFaultBehind earlier i text e
 
@@ -58,12 +64,15 @@ module _ (T : Tables) where
     pub fault : IsFaultBehind earlier i text e
 
   -- why bundles and the root's patterns are refused: the first faulty bundle, or else the root
-  pub data IsRefusal (texts : List BundleText) (root : PatternTexts) (e : RenderError) : Type 0 where
+  pub data IsRefusal (texts : List BundleText) (root : PatternTexts) (e : RenderError) :
+      Type 0 where
     in_bundles : IsBundleFault texts e → IsRefusal texts root e
-    in_root : {bs : List Meaning} {fault : _} → AreBundles texts bs → list_fault (list_texts root) ≡ Some fault
+    in_root : {bs : List Meaning} {fault : _} → AreBundles texts bs
+        → list_fault (list_texts root) ≡ Some fault
         → e ≡ refusals.Root fault → IsRefusal texts root e
 
   -- nothing is refused, and this is what bundles and root mean
-  pub record AreAccepted (texts : List BundleText) (root : PatternTexts) (bs : List Meaning) (p : Patterns) : Type 0 where
+  pub record AreAccepted (texts : List BundleText) (root : PatternTexts) (bs : List Meaning)
+      (p : Patterns) : Type 0 where
     pub bundles : AreBundles texts bs
     pub root_patterns : ArePatterns (list_texts root) p

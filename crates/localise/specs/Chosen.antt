@@ -1,5 +1,7 @@
--- Which text a request gets: the walk over locales (UTS 35, locale inheritance), and the first that translates.
-use Rattle.std.specs.Prelude.{◌≡◌, ◌≢◌, ◌≤◌, ◌<◌, ℕ, ◌+◌, List, [], ◌∷◌, Option, Some, None, if◌then◌else◌}
+-- Which text a request gets: the walk over locales (UTS 35, locale inheritance), and the first that
+-- translates.
+use Rattle.std.specs.Prelude.{◌≡◌, ◌≢◌, ◌≤◌, ◌<◌, ℕ, ◌+◌, List, [], ◌∷◌, Option, Some, None}
+use Rattle.std.specs.Prelude.{if◌then◌else◌}
 use Rattle.std.specs.Option.{option_map}
 use Rattle.gettext.specs.Messages.{form, key_of, own_words}
 use Rattle.icu_list.specs.Joined.{joined}
@@ -12,7 +14,8 @@ use Rattle.writeable_replace.specs.Replaced.{replaced}
 use Rattle.localise.specs.Meaning.{Meaning}
 use Rattle.localise_texts.specs.declared.request.Request.{Request}
 
--- a form that a bundle gives: the numbers of the bundle and of the form, from 0, the form's text, and the bundle's patterns
+-- a form that a bundle gives: the numbers of the bundle and of the form, from 0, the form's text,
+-- and the bundle's patterns
 pub record Translation : Type 0 where
   pub bundle : ℕ
   pub number : ℕ
@@ -25,19 +28,23 @@ form_for b q = form b.messages None (key_of q.context q.singular) q.count
 
 -- a form of bundle i
 abbrev pub numbered : ℕ → Meaning → Option (ℕ × List ℕ) → Option Translation
-numbered i b f = option_map (λ f. record { bundle = i; number = f.0; text = f.1; patterns = b.patterns }) f
+numbered i b f =
+    option_map (λ f. record { bundle = i; number = f.0; text = f.1; patterns = b.patterns }) f
 
--- what the bundle of a locale gives, the bundles being numbered from i; no two bundles are for one locale
+-- what the bundle of a locale gives, the bundles being numbered from i; no two bundles are for one
+-- locale
 abbrev pub translation_from : ℕ → List Meaning → Request → Locale → Option Translation
 translation_from i [] q locale = None
 translation_from i (b ∷ bs) q locale =
-    if same_locale b.locale locale then numbered i b (form_for b q) else translation_from (i + 1) bs q locale
+    if same_locale b.locale locale then numbered i b (form_for b q) else translation_from
+    (i + 1) bs q locale
 
 -- the translation of a request in a locale
 abbrev pub translation : List Meaning → Request → Locale → Option Translation
 translation = translation_from 0
 
--- how a walk ends: a locale translates, behind so many steps; none does, and the unknown locale is reached; or the walk comes round
+-- how a walk ends: a locale translates, behind so many steps; none does, and the unknown locale is
+-- reached; or the walk comes round
 pub data Outcome : Type 0 where
   Chosen : ℕ → Translation → Outcome
   Own : ℕ → Outcome
@@ -59,7 +66,8 @@ module _ (F : Tables) (bundles : List Meaning) (l : Locale) (q : Request) where
       (at F l k ≡ unknown) × ((j : ℕ) → here j ≡ None) × ((j : ℕ) → j < k → at F l j ≢ unknown)
   IsOutcome Loops = (k : ℕ) × Repeats F l k × NoneBelow k
 
--- the words that a request gets before its placeholder is replaced, how its items are joined, and where the words are from
+-- the words that a request gets before its placeholder is replaced, how its items are joined, and
+-- where the words are from
 pub record Answer : Type 0 where
   pub words : List ℕ
   pub patterns : Patterns
@@ -99,7 +107,8 @@ answer_of F root l q (Own k) = Some (untranslated root q (at F l k) k)
 answer_of F root l q Loops = None
 
 -- the answer to a request for a wanted locale
-pub record Answers (F : Tables) (bundles : List Meaning) (root : Patterns) (l : Locale) (q : Request) (a : Answer) : Type 0 where
+pub record Answers (F : Tables) (bundles : List Meaning) (root : Patterns) (l : Locale)
+    (q : Request) (a : Answer) : Type 0 where
   pub outcome : Outcome
   pub is : IsOutcome F bundles l q outcome
   pub gives : answer_of F root l q outcome ≡ Some a
@@ -113,7 +122,8 @@ abbrev pub text_of : Request → Answer → List ℕ
 text_of q a = replaced a.words q.placeholder (joined a.patterns q.items)
 
 -- the text that a request gets for a wanted locale
-pub record IsLocalised (F : Tables) (bundles : List Meaning) (root : Patterns) (l : Locale) (q : Request) (text : List ℕ) : Type 0 where
+pub record IsLocalised (F : Tables) (bundles : List Meaning) (root : Patterns) (l : Locale)
+    (q : Request) (text : List ℕ) : Type 0 where
   pub answer : Answer
   pub answers : Answers F bundles root l q answer
   pub text_is : text ≡ text_of q answer

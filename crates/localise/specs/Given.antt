@@ -35,7 +35,8 @@ hint_given g =
     (list_hint g.answer.patterns (map text_hint g.items))
 
 -- what is found is the answer that these bundles give
-pub record IsGivenBy (F : Tables) (bundles : List Meaning) (root : Patterns) (l : Locale) (q : Request) (found : Given) : Type 0 where
+pub record IsGivenBy (F : Tables) (bundles : List Meaning) (root : Patterns) (l : Locale)
+    (q : Request) (found : Given) : Type 0 where
   pub answer : Answer
   pub answers : Answers F bundles root l q answer
   pub found_is : found ≡ given q answer

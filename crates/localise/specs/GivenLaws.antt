@@ -12,13 +12,19 @@ use Rattle.writeable_core.specs.HintLaws.{Hinted-exact}
 use Rattle.writeable_replace.specs.ReplacedHintLaws.{Hinted-replaced}
 
 -- the length of joined texts lies in their hint
-items_hinted : (p : Patterns) (items : List (List ℕ)) → Hinted (list_hint p (map text_hint items)) (byte_length (joined p items))
+items_hinted : (p : Patterns) (items : List (List ℕ))
+    → Hinted (list_hint p (map text_hint items)) (byte_length (joined p items))
 items_hinted p items =
-    subst (λ (texts : List (List ℕ)). Hinted (list_hint p (map text_hint items)) (byte_length (joined p texts))) (map-id items)
+    subst
+    (λ (texts : List (List ℕ)).
+    Hinted (list_hint p (map text_hint items)) (byte_length (joined p texts)))
+    (map-id items)
     (joined_hinted p items (λ (t : List ℕ). t) text_hint (λ t. Hinted-exact (byte_length t)))
 
 -- the length of the localised text lies in its hint
 pub hint_given_holds : (g : Given) → Hinted (hint_given g) (byte_length (text_given g))
 hint_given_holds g =
-    Hinted-replaced (text_hint g.answer.words) (list_hint g.answer.patterns (map text_hint g.items)) g.answer.words g.placeholder
-    (joined g.answer.patterns g.items) (Hinted-exact (byte_length g.answer.words)) (items_hinted g.answer.patterns g.items)
+    Hinted-replaced (text_hint g.answer.words)
+    (list_hint g.answer.patterns (map text_hint g.items)) g.answer.words g.placeholder
+    (joined g.answer.patterns g.items) (Hinted-exact (byte_length g.answer.words))
+    (items_hinted g.answer.patterns g.items)

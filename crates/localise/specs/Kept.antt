@@ -43,7 +43,8 @@ abbrev pub AreAlike : List Meaning → List Meaning → Type 0
 AreAlike kept bundles = (q : Request) (l : Locale) → translation kept q l ≡ translation bundles q l
 
 -- what a localiser keeps stands for the bundles and the root
-pub record Localises (T : Tables) (texts : List BundleText) (root : PatternTexts) (kept : List Meaning) (patterns : Patterns) : Type 0 where
+pub record Localises (T : Tables) (texts : List BundleText) (root : PatternTexts)
+    (kept : List Meaning) (patterns : Patterns) : Type 0 where
   pub bundles : List Meaning
   pub accepted : AreAccepted T texts root bundles patterns
   pub alike : AreAlike kept bundles

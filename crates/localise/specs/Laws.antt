@@ -16,7 +16,8 @@ use Rattle.wanted_locale.specs.declared.tables.Tables.{Tables}
 -- bundles and a root that nothing refuses mean one thing
 abbrev pub OneMeaning : Type 0
 OneMeaning =
-    (T : Tables) (texts : List BundleText) (root : PatternTexts) (bs cs : List Meaning) (p r : Patterns) →
+    (T : Tables) (texts : List BundleText) (root : PatternTexts) (bs cs : List Meaning)
+    (p r : Patterns) →
     AreAccepted T texts root bs p → AreAccepted T texts root cs r → (bs ≡ cs) × (p ≡ r)
 
 -- bundles and a root have one refusal at most
@@ -28,7 +29,8 @@ OneRefusal =
 -- and none where they are accepted
 abbrev pub NeverBoth : Type 0
 NeverBoth =
-    (T : Tables) (texts : List BundleText) (root : PatternTexts) (bs : List Meaning) (p : Patterns) (e : RenderError) →
+    (T : Tables) (texts : List BundleText) (root : PatternTexts) (bs : List Meaning) (p : Patterns)
+    (e : RenderError) →
     AreAccepted T texts root bs p → ¬ (IsRefusal T texts root e)
 
 -- the walk of a request has one outcome at most
@@ -40,7 +42,8 @@ OneOutcome =
 -- a request has no answer where its walk comes round
 abbrev pub NoAnswerRound : Type 0
 NoAnswerRound =
-    (F : fallback.Tables) (bundles : List Meaning) (root : Patterns) (l : Locale) (q : Request) (a : Answer) →
+    (F : fallback.Tables) (bundles : List Meaning) (root : Patterns) (l : Locale) (q : Request)
+    (a : Answer) →
     Answers F bundles root l q a → ¬ (ComesRound F bundles l q)
 
 -- tables that answer alike: their registries answer each key alike, and their fallback is one
@@ -51,7 +54,8 @@ pub record AnswerAlike (T U : Tables) : Type 0 where
 -- over tables that answer alike the same is accepted
 abbrev pub AcceptedByAnswers : Type 0
 AcceptedByAnswers =
-    (T U : Tables) (texts : List BundleText) (root : PatternTexts) (bs : List Meaning) (p : Patterns) →
+    (T U : Tables) (texts : List BundleText) (root : PatternTexts) (bs : List Meaning)
+    (p : Patterns) →
     AnswerAlike T U → AreAccepted T texts root bs p → AreAccepted U texts root bs p
 
 -- and the same is refused

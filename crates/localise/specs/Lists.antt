@@ -1,4 +1,5 @@
--- Which patterns the texts of a list are (UTS 35, List Patterns), the special end being read as an end.
+-- Which patterns the texts of a list are (UTS 35, List Patterns), the special end being read as an
+-- end.
 use Rattle.std.specs.Prelude.{◌≡◌, Bool, true, false, Option, Some, None, Ok}
 use Rattle.std.specs.Option.{option_map}
 use Rattle.icu_list.specs.ListFault.{ArePatternsOf, ListTexts, SpecialTexts, list_fault}

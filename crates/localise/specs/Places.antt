@@ -1,4 +1,5 @@
--- How the bundle of a locale is looked up: by an ordered map from locales to the numbers of bundles.
+-- How the bundle of a locale is looked up: by an ordered map from locales to the numbers of
+-- bundles.
 use Rattle.std.specs.Prelude.{◌≡◌, ℕ, List, Option}
 use Rattle.std.specs.BTreeMap.{BTreeMap, get}
 use Rattle.std.specs.List.{position_from}

@@ -6,7 +6,8 @@ use Rattle.localise.specs.declared.bundle.Bundle.{Bundle}
 
 -- its locale, the messages of its catalog, and its patterns
 abbrev pub meaning_of : Bundle → Meaning
-meaning_of b = record { locale = b.locale; messages = messages_of b.catalog.entries; patterns = b.patterns }
+meaning_of b =
+    record { locale = b.locale; messages = messages_of b.catalog.entries; patterns = b.patterns }
 
 -- what bundles mean, in their order
 abbrev pub meanings_of : List Bundle → List Meaning

@@ -17,17 +17,21 @@ use Rattle.wanted_locale.specs.declared.tables.Tables.{Tables}
 use Rattle.writeable_core.specs.Sink.{TookPrefix}
 
 -- the answer that bundles give a request, for the locale that its tag asks for
-pub record IsAnswered (T : Tables) (bundles : List Meaning) (root : Patterns) (q : Request) (a : Answer) : Type 0 where
+pub record IsAnswered (T : Tables) (bundles : List Meaning) (root : Patterns) (q : Request)
+    (a : Answer) : Type 0 where
   pub wanted : Locale
   pub wants : IsWantedOf T.registry (encode_utf8_all q.tag) wanted
   pub answers : Answers T.fallbacker bundles root wanted q a
 
 -- why bundles give it none: its tag asks for no locale, or its walk comes round
-pub data IsUnanswered (T : Tables) (bundles : List Meaning) (q : Request) (e : RenderError) : Type 0 where
-  in_tag : {cause : _} → IsTagCause T.registry (encode_utf8_all q.tag) cause → e ≡ refusals.Tag cause
+pub data IsUnanswered (T : Tables) (bundles : List Meaning) (q : Request) (e : RenderError) :
+    Type 0 where
+  in_tag : {cause : _} → IsTagCause T.registry (encode_utf8_all q.tag) cause
+      → e ≡ refusals.Tag cause
       → IsUnanswered T bundles q e
   in_walk : {wanted : Locale} → IsWantedOf T.registry (encode_utf8_all q.tag) wanted
-      → ComesRound T.fallbacker bundles wanted q → e ≡ refusals.ChainLoops → IsUnanswered T bundles q e
+      → ComesRound T.fallbacker bundles wanted q → e ≡ refusals.ChainLoops
+      → IsUnanswered T bundles q e
 
 -- what is told of what is found
 abbrev pub told_of : Given → Rendered
@@ -50,7 +54,8 @@ module _ (T : Tables) (texts : List BundleText) (root : PatternTexts) (q : Reque
   -- why there is no text: bundles or root are refused, or else the request has no answer
   pub data IsRefused (e : RenderError) : Type 0 where
     in_localiser : IsRefusal T texts root e → IsRefused e
-    in_request : {bundles : List Meaning} {patterns : Patterns} → AreAccepted T texts root bundles patterns
+    in_request : {bundles : List Meaning} {patterns : Patterns}
+        → AreAccepted T texts root bundles patterns
         → IsUnanswered T bundles q e → IsRefused e
 
   module _ {S : Type 0} (took : S → List ℕ → S → Type 0) (old new : S) where
@@ -64,4 +69,5 @@ module _ (T : Tables) (texts : List BundleText) (root : PatternTexts) (q : Reque
     -- the sink took nothing, or a front of the text of the answer
     pub data TookNoMore : Type 0 where
       nothing : new ≡ old → TookNoMore
-      front : {answer : Answer} → HasAnswer answer → TookPrefix took old (text_of q answer) new → TookNoMore
+      front : {answer : Answer} → HasAnswer answer
+          → TookPrefix took old (text_of q answer) new → TookNoMore

@@ -1,7 +1,8 @@
 -- Where a walk stops: at a locale that translates, or else at the unknown locale.
 use Rattle.std.specs.Prelude.{◌≡◌, ℕ, List, Option, Some, None}
 use Rattle.icu_locale_core.specs.Locale.{Locale, unknown}
-use Rattle.localise.specs.Chosen.{Outcome, Chosen, Own, Loops, Translation, translation, Answer, translated, untranslated}
+use Rattle.localise.specs.Chosen.{Outcome, Chosen, Own, Loops, Translation, translation, Answer}
+use Rattle.localise.specs.Chosen.{translated, untranslated}
 use Rattle.icu_list.specs.Patterns.{Patterns}
 use Rattle.localise.specs.Meaning.{Meaning}
 use Rattle.localise.specs.declared.walk.Stop.{Stop}
@@ -18,7 +19,8 @@ outcome_of None = Loops
 outcome_of (Some stop) = outcome_at stop.steps stop.translation
 
 -- the stop behind so many steps at a locale, which translates or is the unknown one
-pub record IsStop (bundles : List Meaning) (q : Request) (k : ℕ) (l : Locale) (stop : Stop) : Type 0 where
+pub record IsStop (bundles : List Meaning) (q : Request) (k : ℕ) (l : Locale) (stop : Stop) :
+    Type 0 where
   pub steps : stop.steps ≡ k
   pub locale : stop.locale ≡ l
   pub translation_is : stop.translation ≡ translation bundles q l

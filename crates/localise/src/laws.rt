@@ -1,5 +1,5 @@
-//! Laws of bundles and walks, for contracts that cite them. Each function does nothing: its contract
-//! is the law.
+//! Laws of bundles and walks, for contracts that cite them. Each function does nothing: its
+//! contract is the law.
 ghost use Rattle.localise.specs.Laws.{AcceptedByAnswers, NeverBoth, NoAnswerRound, OneMeaning};
 ghost use Rattle.localise.specs.Laws.{OneOutcome, OneRefusal, RefusedByAnswers};
 

@@ -8,6 +8,8 @@ use Rattle.localise_document.specs.declared.place.Field.TheVariants.{Unknown}
 use Rattle.localise_document.specs.declared.place.Section.{Section}
 
 -- a section that is an object with no other members than these has them
-pub section_of_object : (section : Section) (names : List (List ℕ)) (ms : Members) → has_only names ms ≡ true
+pub section_of_object : (section : Section) (names : List (List ℕ)) (ms : Members)
+    → has_only names ms ≡ true
     → section_of section names (Some (object ms)) ≡ Ok ms
-section_of_object section names ms only = ap (λ b. cond b (Ok ms) (Err (place_of section Unknown))) only
+section_of_object section names ms only =
+    ap (λ b. cond b (Ok ms) (Err (place_of section Unknown))) only

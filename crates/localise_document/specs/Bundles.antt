@@ -37,4 +37,5 @@ patterns_or root (Some list) = list
 
 -- a bundle beside the root
 abbrev pub bundle_with : PatternTexts → BundleParts → BundleText
-bundle_with root parts = record { tag = parts.tag; mo = parts.mo; list = patterns_or root parts.list }
+bundle_with root parts =
+    record { tag = parts.tag; mo = parts.mo; list = patterns_or root parts.list }

@@ -3,7 +3,19 @@ use Rattle.std.specs.Prelude.{List, [], ◌∷◌, map}
 use Rattle.icu_locale_fallback.specs.declared.rows.FallbackRows.{FallbackRows}
 use Rattle.language_tags_registry.specs.Rows.{rows_of}
 use Rattle.language_tags_registry.specs.declared.kind.RegistryTable.{RegistryTable}
-use Rattle.language_tags_registry.specs.declared.kind.RegistryTable.TheVariants.{Languages, LanguagesPreferred, LanguagesSuppressScript, Extlangs, ExtlangsPreferred, Scripts, ScriptsPreferred, Regions, RegionsPreferred, Variants, VariantsPreferred, GrandfatheredsPreferred, RedundantsPreferred}
+use Rattle.language_tags_registry.specs.declared.kind.RegistryTable.TheVariants.{Languages}
+use Rattle.language_tags_registry.specs.declared.kind.RegistryTable.TheVariants.{LanguagesPreferred}
+use Rattle.language_tags_registry.specs.declared.kind.RegistryTable.TheVariants.{LanguagesSuppressScript}
+use Rattle.language_tags_registry.specs.declared.kind.RegistryTable.TheVariants.{Extlangs}
+use Rattle.language_tags_registry.specs.declared.kind.RegistryTable.TheVariants.{ExtlangsPreferred}
+use Rattle.language_tags_registry.specs.declared.kind.RegistryTable.TheVariants.{Scripts}
+use Rattle.language_tags_registry.specs.declared.kind.RegistryTable.TheVariants.{ScriptsPreferred}
+use Rattle.language_tags_registry.specs.declared.kind.RegistryTable.TheVariants.{Regions}
+use Rattle.language_tags_registry.specs.declared.kind.RegistryTable.TheVariants.{RegionsPreferred}
+use Rattle.language_tags_registry.specs.declared.kind.RegistryTable.TheVariants.{Variants}
+use Rattle.language_tags_registry.specs.declared.kind.RegistryTable.TheVariants.{VariantsPreferred}
+use Rattle.language_tags_registry.specs.declared.kind.RegistryTable.TheVariants.{GrandfatheredsPreferred}
+use Rattle.language_tags_registry.specs.declared.kind.RegistryTable.TheVariants.{RedundantsPreferred}
 use Rattle.language_tags_registry.specs.declared.rows.RegistryRows.{RegistryRows}
 use Rattle.localise_texts.specs.declared.bundle.BundleText.{BundleText}
 use Rattle.localise_texts.specs.declared.patterns.PatternTexts.{PatternTexts}

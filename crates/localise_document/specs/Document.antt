@@ -1,6 +1,7 @@
 -- The document: which JSON values (RFC 8259) are one, what it says, and where a value that is none
 -- is misshapen first.
-use Rattle.std.specs.Prelude.{◌≡◌, ℕ, List, [], ◌∷◌, codes, map, Option, Some, None, Result, Ok, Err, ok_or, if◌then◌else◌}
+use Rattle.std.specs.Prelude.{◌≡◌, ℕ, List, [], ◌∷◌, codes, map, Option, Some, None, Result, Ok}
+use Rattle.std.specs.Prelude.{Err, ok_or, if◌then◌else◌}
 use Rattle.std.specs.Str.{is_utf8}
 use Rattle.localise_texts.specs.declared.patterns.PatternTexts.{PatternTexts}
 use Rattle.serde_json.specs.Data.{Data, Members}
@@ -13,10 +14,12 @@ use Rattle.localise_document.specs.Requests.{request_of}
 use Rattle.localise_document.specs.Shape.{◌>>=◌, members_in, needed_list, place_of}
 use Rattle.localise_document.specs.Tables.{fallback_of, registry_of}
 use Rattle.localise_document.specs.declared.error.DocumentError.{DocumentError}
-use Rattle.localise_document.specs.declared.error.DocumentError.TheVariants.{NotJson, Shape, NoMemory}
+use Rattle.localise_document.specs.declared.error.DocumentError.TheVariants.{NotJson, Shape}
+use Rattle.localise_document.specs.declared.error.DocumentError.TheVariants.{NoMemory}
 use Rattle.localise_document.specs.declared.place.Field.TheVariants.{Whole, Unknown}
 use Rattle.localise_document.specs.declared.place.Field.TheVariants as fields
-use Rattle.localise_document.specs.declared.place.Section.TheVariants.{Document, Bundles, Root, Requests}
+use Rattle.localise_document.specs.declared.place.Section.TheVariants.{Document, Bundles, Root}
+use Rattle.localise_document.specs.declared.place.Section.TheVariants.{Requests}
 use Rattle.localise_document.specs.declared.place.ShapePlace.{ShapePlace}
 
 -- the root's patterns
@@ -40,7 +43,14 @@ document_in ms = do
   bundles ← needed_list bundle_of Bundles (get_member (codes "bundles") ms)
   root ← root_of (get_member (codes "root") ms)
   requests ← needed_list request_of Requests (get_member (codes "requests") ms)
-  Ok (record { registry = registry; fallback = fallback; bundles = map (bundle_with root) bundles; root = root; requests = requests })
+  Ok
+      (record {
+        registry = registry;
+        fallback = fallback;
+        bundles = map (bundle_with root) bundles;
+        root = root;
+        requests = requests;
+      })
 
 -- the document that a value is, or its first misshapen place
 unfoldable pub document_of : Data → Result Contents ShapePlace

@@ -46,7 +46,8 @@ AreRows IsRow (item d ds) [] = ⊥
 AreRows IsRow (item d ds) (row ∷ rows) = IsRow d row × AreRows IsRow ds rows
 
 -- the member is a list of these rows
-pub record IsListOf {A : Type 0} (IsRow : Data → A → Type 0) (member : Option Data) (rows : List A) : Type 0 where
+pub record IsListOf {A : Type 0} (IsRow : Data → A → Type 0) (member : Option Data)
+    (rows : List A) : Type 0 where
   pub items : Items
   pub is_list : member ≡ Some (array items)
   pub are : AreRows IsRow items rows
@@ -83,7 +84,8 @@ pub record IsTableRow (cells : ℕ) (d : Data) (row : TextRow) : Type 0 where
 
 -- a table, which is empty where it is absent
 abbrev pub IsTable : ℕ → Option Data → List TextRow → Type 0
-IsTable cells member rows = ((member ≡ None) × (rows ≡ [])) ⊎ IsListOf (IsTableRow cells) member rows
+IsTable cells member rows =
+    ((member ≡ None) × (rows ≡ [])) ⊎ IsListOf (IsTableRow cells) member rows
 
 -- tables by their names, of so many cells
 abbrev pub AreTables : List (List ℕ × ℕ) → Members → List (List TextRow) → Type 0
@@ -103,7 +105,8 @@ IsSection names section members =
 abbrev pub registry_cells : List (List ℕ × ℕ)
 registry_cells =
     (codes "languages", 1) ∷ (codes "languages_preferred", 2)
-    ∷ (codes "languages_suppress_script", 2) ∷ (codes "extlangs", 2) ∷ (codes "extlangs_preferred", 2)
+    ∷ (codes "languages_suppress_script", 2) ∷ (codes "extlangs", 2)
+    ∷ (codes "extlangs_preferred", 2)
     ∷ (codes "scripts", 1) ∷ (codes "scripts_preferred", 2) ∷ (codes "regions", 1)
     ∷ (codes "regions_preferred", 2) ∷ (codes "variants", 2) ∷ (codes "variants_preferred", 2)
     ∷ (codes "grandfathereds_preferred", 2) ∷ (codes "redundants_preferred", 2) ∷ []
@@ -115,7 +118,8 @@ fallback_cells =
     ∷ (codes "likely_language_region", 3) ∷ (codes "parents", 2) ∷ []
 
 -- these are the tables of a section
-pub record AreTablesOf (names : List (List ℕ)) (cells : List (List ℕ × ℕ)) (section : Option Data) (lists : List (List TextRow)) : Type 0 where
+pub record AreTablesOf (names : List (List ℕ)) (cells : List (List ℕ × ℕ)) (section : Option Data)
+    (lists : List (List TextRow)) : Type 0 where
   pub members : Members
   pub has : IsSection names section members
   pub are : AreTables cells members lists
@@ -124,8 +128,12 @@ pub record AreTablesOf (names : List (List ℕ)) (cells : List (List ℕ × ℕ)
 pub record IsDocumentValue (d : Data) (says : Contents) : Type 0 where
   pub members : Members
   pub has : IsObject document_names d members
-  pub registry : AreTablesOf registry_names registry_cells (get_member (codes "registry") members) says.registry
-  pub fallback : AreTablesOf fallback_names fallback_cells (get_member (codes "fallback") members) says.fallback
+  pub registry :
+      AreTablesOf registry_names registry_cells
+      (get_member (codes "registry") members) says.registry
+  pub fallback :
+      AreTablesOf fallback_names fallback_cells
+      (get_member (codes "fallback") members) says.fallback
   pub bundles : IsListOf (IsBundle says.root) (get_member (codes "bundles") members) says.bundles
   pub root : HasOr default_patterns patterns_of (get_member (codes "root") members) says.root
   pub requests : IsListOf IsRequest (get_member (codes "requests") members) says.requests

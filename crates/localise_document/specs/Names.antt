@@ -2,10 +2,14 @@
 -- keys of a document too.
 use Rattle.std.specs.Prelude.{ℕ, zero, suc, List, [], ◌∷◌, codes}
 use Rattle.localise_document.specs.declared.place.Field.{Field}
-use Rattle.localise_document.specs.declared.place.Field.TheVariants.{Whole, Unknown, Tag, Mo, Context, Singular, Plural, Count, Placeholder, Items, RegistryTable, FallbackTable}
+use Rattle.localise_document.specs.declared.place.Field.TheVariants.{Whole, Unknown, Tag, Mo}
+use Rattle.localise_document.specs.declared.place.Field.TheVariants.{Context, Singular, Plural}
+use Rattle.localise_document.specs.declared.place.Field.TheVariants.{Count, Placeholder, Items}
+use Rattle.localise_document.specs.declared.place.Field.TheVariants.{RegistryTable, FallbackTable}
 use Rattle.localise_document.specs.declared.place.Field.TheVariants as fields
 use Rattle.localise_document.specs.declared.place.Section.{Section}
-use Rattle.localise_document.specs.declared.place.Section.TheVariants.{Document, Registry, Fallback, Bundles, Root, Requests}
+use Rattle.localise_document.specs.declared.place.Section.TheVariants.{Document, Registry, Fallback}
+use Rattle.localise_document.specs.declared.place.Section.TheVariants.{Bundles, Root, Requests}
 
 -- the name of a section
 abbrev pub section_name : Section → List ℕ

@@ -41,24 +41,39 @@ pub record IsRequestObject (d : Data) (taken : RequestMembers) : Type 0 where
 -- these are the members by the names of the registry's tables
 pub record HasRegistryMembers (members : Members) (taken : RegistryMembers) : Type 0 where
   pub languages : option_map view taken.languages ≡ get_member (codes "languages") members
-  pub languages_preferred : option_map view taken.languages_preferred ≡ get_member (codes "languages_preferred") members
-  pub languages_suppress_script : option_map view taken.languages_suppress_script ≡ get_member (codes "languages_suppress_script") members
+  pub languages_preferred :
+      option_map view taken.languages_preferred ≡ get_member (codes "languages_preferred") members
+  pub languages_suppress_script :
+      option_map view taken.languages_suppress_script
+      ≡ get_member (codes "languages_suppress_script") members
   pub extlangs : option_map view taken.extlangs ≡ get_member (codes "extlangs") members
-  pub extlangs_preferred : option_map view taken.extlangs_preferred ≡ get_member (codes "extlangs_preferred") members
+  pub extlangs_preferred : option_map view taken.extlangs_preferred
+      ≡ get_member (codes "extlangs_preferred") members
   pub scripts : option_map view taken.scripts ≡ get_member (codes "scripts") members
-  pub scripts_preferred : option_map view taken.scripts_preferred ≡ get_member (codes "scripts_preferred") members
+  pub scripts_preferred : option_map view taken.scripts_preferred
+      ≡ get_member (codes "scripts_preferred") members
   pub regions : option_map view taken.regions ≡ get_member (codes "regions") members
-  pub regions_preferred : option_map view taken.regions_preferred ≡ get_member (codes "regions_preferred") members
+  pub regions_preferred : option_map view taken.regions_preferred
+      ≡ get_member (codes "regions_preferred") members
   pub variants : option_map view taken.variants ≡ get_member (codes "variants") members
-  pub variants_preferred : option_map view taken.variants_preferred ≡ get_member (codes "variants_preferred") members
-  pub grandfathereds_preferred : option_map view taken.grandfathereds_preferred ≡ get_member (codes "grandfathereds_preferred") members
-  pub redundants_preferred : option_map view taken.redundants_preferred ≡ get_member (codes "redundants_preferred") members
+  pub variants_preferred : option_map view taken.variants_preferred
+      ≡ get_member (codes "variants_preferred") members
+  pub grandfathereds_preferred :
+      option_map view taken.grandfathereds_preferred
+      ≡ get_member (codes "grandfathereds_preferred") members
+  pub redundants_preferred :
+      option_map view taken.redundants_preferred ≡ get_member (codes "redundants_preferred") members
 
 -- these are the members by the names of the tables of fallback
 pub record HasFallbackMembers (members : Members) (taken : FallbackMembers) : Type 0 where
-  pub likely_language : option_map view taken.likely_language ≡ get_member (codes "likely_language") members
-  pub likely_language_script : option_map view taken.likely_language_script ≡ get_member (codes "likely_language_script") members
-  pub likely_language_region : option_map view taken.likely_language_region ≡ get_member (codes "likely_language_region") members
+  pub likely_language : option_map view taken.likely_language
+      ≡ get_member (codes "likely_language") members
+  pub likely_language_script :
+      option_map view taken.likely_language_script
+      ≡ get_member (codes "likely_language_script") members
+  pub likely_language_region :
+      option_map view taken.likely_language_region
+      ≡ get_member (codes "likely_language_region") members
   pub parents : option_map view taken.parents ≡ get_member (codes "parents") members
 
 -- the section has the members of a registry, and these are they

@@ -1,5 +1,6 @@
 -- How a locale joins lists, as a document says it.
-use Rattle.std.specs.Prelude.{ℕ, List, [], ◌∷◌, codes, Option, Some, None, if◌then◌else◌, option_map, option_and_then}
+use Rattle.std.specs.Prelude.{ℕ, List, [], ◌∷◌, codes, Option, Some, None, if◌then◌else◌}
+use Rattle.std.specs.Prelude.{option_map, option_and_then}
 use Rattle.serde_json.specs.Data.{Data, Members}
 use Rattle.serde_json.specs.Find.{as_object, get_member}
 use Rattle.localise_texts.specs.declared.patterns.PatternTexts.{PatternTexts}
@@ -30,7 +31,8 @@ special_in ms = do
 
 -- an object's members, which have no other names than these
 abbrev pub only_members : List (List ℕ) → Data → Option Members
-only_members names d = option_and_then (λ ms. if has_only names ms then Some ms else None) (as_object d)
+only_members names d =
+    option_and_then (λ ms. if has_only names ms then Some ms else None) (as_object d)
 
 -- the special that a value is
 unfoldable pub special_of : Data → Option Special
@@ -58,7 +60,15 @@ patterns_in ms = do
   pair ← text_in (get_member (codes "pair") ms)
   end_special ← optional_special (get_member (codes "end_special") ms)
   pair_special ← optional_special (get_member (codes "pair_special") ms)
-  Some (record { start = start; middle = middle; end = end; pair = pair; end_special = end_special; pair_special = pair_special })
+  Some
+      (record {
+        start = start;
+        middle = middle;
+        end = end;
+        pair = pair;
+        end_special = end_special;
+        pair_special = pair_special;
+      })
 
 -- the patterns that a value is
 unfoldable pub patterns_of : Data → Option PatternTexts
@@ -73,4 +83,11 @@ default_pattern = codes "{0}, {1}"
 -- the patterns of a document without a root
 abbrev pub default_patterns : PatternTexts
 default_patterns =
-    record { start = default_pattern; middle = default_pattern; end = default_pattern; pair = default_pattern; end_special = None; pair_special = None }
+    record {
+      start = default_pattern;
+      middle = default_pattern;
+      end = default_pattern;
+      pair = default_pattern;
+      end_special = None;
+      pair_special = None;
+    }

@@ -1,5 +1,6 @@
 -- Shapes of JSON values (RFC 8259): what is read of a value, or what of it is misshapen.
-use Rattle.std.specs.Prelude.{ℕ, ◌+◌, List, [], ◌∷◌, Option, Some, None, Result, Ok, Err, ok_or, if◌then◌else◌, option_map, option_and_then}
+use Rattle.std.specs.Prelude.{ℕ, ◌+◌, List, [], ◌∷◌, Option, Some, None, Result, Ok, Err, ok_or}
+use Rattle.std.specs.Prelude.{if◌then◌else◌, option_map, option_and_then}
 use Rattle.std.specs.Str.{chars}
 use Rattle.serde_json.specs.Data.{Data, Items, no_items, item, Members}
 use Rattle.serde_json.specs.Find.{as_array, as_number, as_object, as_str, as_u64}
@@ -28,7 +29,8 @@ count_of d = option_and_then as_u64 (as_number d)
 -- each text of a list
 abbrev pub each_text : Items → Option (List (List ℕ))
 each_text no_items = Some []
-each_text (item d ds) = option_and_then (λ text. option_map (λ rest. text ∷ rest) (each_text ds)) (text_of d)
+each_text (item d ds) =
+    option_and_then (λ text. option_map (λ rest. text ∷ rest) (each_text ds)) (text_of d)
 
 -- a list of texts
 abbrev pub text_list_of : Data → Option (List (List ℕ))
@@ -69,7 +71,8 @@ in_row section index (Ok row) = Ok row
 in_row section index (Err field) = Err (record { section = section; index = index; field = field })
 
 -- the rows of a list from a row of this number on, or the first misshapen one
-abbrev pub rows_from : {A : Type 0} → (Data → Result A Field) → Section → ℕ → Items → Result (List A) ShapePlace
+abbrev pub rows_from : {A : Type 0} → (Data → Result A Field) → Section → ℕ → Items
+    → Result (List A) ShapePlace
 rows_from row section index no_items = Ok []
 rows_from row section index (item d ds) = do
   first ← in_row section index (row d)
@@ -77,12 +80,14 @@ rows_from row section index (item d ds) = do
   Ok (first ∷ rest)
 
 -- a list of rows; what isn't a list is misshapen by the field that stands for the whole of it
-abbrev pub list_of : {A : Type 0} → (Data → Result A Field) → Section → (whole : Field) → Data → Result (List A) ShapePlace
+abbrev pub list_of : {A : Type 0} → (Data → Result A Field) → Section → (whole : Field) → Data
+    → Result (List A) ShapePlace
 list_of row section whole d = do
   ds ← ok_or (as_array d) (place_of section whole)
   rows_from row section 0 ds
 
 -- a list that must be there
-abbrev pub needed_list : {A : Type 0} → (Data → Result A Field) → Section → Option Data → Result (List A) ShapePlace
+abbrev pub needed_list : {A : Type 0} → (Data → Result A Field) → Section → Option Data
+    → Result (List A) ShapePlace
 needed_list row section None = Err (place_of section Whole)
 needed_list row section (Some d) = list_of row section Whole d

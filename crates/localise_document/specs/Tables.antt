@@ -1,5 +1,6 @@
 -- The tables of a document: lists of rows of texts.
-use Rattle.std.specs.Prelude.{ℕ, ◌==◌, List, [], ◌∷◌, codes, Option, Some, None, Result, Ok, ok_or, if◌then◌else◌, option_and_then}
+use Rattle.std.specs.Prelude.{ℕ, ◌==◌, List, [], ◌∷◌, codes, Option, Some, None, Result, Ok, ok_or}
+use Rattle.std.specs.Prelude.{if◌then◌else◌, option_and_then}
 use Rattle.serde_json.specs.Data.{Data, Items, Members, no_members}
 use Rattle.serde_json.specs.Events.{items_len}
 use Rattle.serde_json.specs.Find.{as_array, get_item, get_member}
@@ -7,7 +8,8 @@ use Rattle.writeable_core.specs.declared.text.TextRow.{TextRow}
 use Rattle.localise_document.specs.Names.{fallback_names, registry_names}
 use Rattle.localise_document.specs.Shape.{◌>>=◌, list_of, members_in, place_of, text_of}
 use Rattle.localise_document.specs.declared.place.Field.{Field}
-use Rattle.localise_document.specs.declared.place.Field.TheVariants.{Whole, Unknown, RegistryTable, FallbackTable}
+use Rattle.localise_document.specs.declared.place.Field.TheVariants.{Whole, Unknown, RegistryTable}
+use Rattle.localise_document.specs.declared.place.Field.TheVariants.{FallbackTable}
 use Rattle.localise_document.specs.declared.place.Section.{Section}
 use Rattle.localise_document.specs.declared.place.Section.TheVariants.{Registry, Fallback}
 use Rattle.localise_document.specs.declared.place.ShapePlace.{ShapePlace}
@@ -19,7 +21,8 @@ cell_of (Some d) = text_of d
 
 -- a row of its three cells, where each is a text
 abbrev pub row_from : Option (List ℕ) → Option (List ℕ) → Option (List ℕ) → Option TextRow
-row_from (Some first) (Some second) (Some third) = Some (record { first = first; second = second; third = third })
+row_from (Some first) (Some second) (Some third) =
+    Some (record { first = first; second = second; third = third })
 row_from (Some first) (Some second) None = None
 row_from (Some first) None third = None
 row_from None second third = None
@@ -50,18 +53,26 @@ section_of section names (Some d) =
 unfoldable pub registry_in : Members → Result (List (List TextRow)) ShapePlace
 registry_in ms = do
   languages ← table_of Registry (RegistryTable 0) 1 (get_member (codes "languages") ms)
-  languages_preferred ← table_of Registry (RegistryTable 1) 2 (get_member (codes "languages_preferred") ms)
-  languages_suppress_script ← table_of Registry (RegistryTable 2) 2 (get_member (codes "languages_suppress_script") ms)
+  languages_preferred ← table_of Registry (RegistryTable 1) 2
+      (get_member (codes "languages_preferred") ms)
+  languages_suppress_script ← table_of Registry (RegistryTable 2) 2
+      (get_member (codes "languages_suppress_script") ms)
   extlangs ← table_of Registry (RegistryTable 3) 2 (get_member (codes "extlangs") ms)
-  extlangs_preferred ← table_of Registry (RegistryTable 4) 2 (get_member (codes "extlangs_preferred") ms)
+  extlangs_preferred ← table_of Registry (RegistryTable 4) 2
+      (get_member (codes "extlangs_preferred") ms)
   scripts ← table_of Registry (RegistryTable 5) 1 (get_member (codes "scripts") ms)
-  scripts_preferred ← table_of Registry (RegistryTable 6) 2 (get_member (codes "scripts_preferred") ms)
+  scripts_preferred ← table_of Registry (RegistryTable 6) 2
+      (get_member (codes "scripts_preferred") ms)
   regions ← table_of Registry (RegistryTable 7) 1 (get_member (codes "regions") ms)
-  regions_preferred ← table_of Registry (RegistryTable 8) 2 (get_member (codes "regions_preferred") ms)
+  regions_preferred ← table_of Registry (RegistryTable 8) 2
+      (get_member (codes "regions_preferred") ms)
   variants ← table_of Registry (RegistryTable 9) 2 (get_member (codes "variants") ms)
-  variants_preferred ← table_of Registry (RegistryTable 10) 2 (get_member (codes "variants_preferred") ms)
-  grandfathereds_preferred ← table_of Registry (RegistryTable 11) 2 (get_member (codes "grandfathereds_preferred") ms)
-  redundants_preferred ← table_of Registry (RegistryTable 12) 2 (get_member (codes "redundants_preferred") ms)
+  variants_preferred ← table_of Registry (RegistryTable 10) 2
+      (get_member (codes "variants_preferred") ms)
+  grandfathereds_preferred ← table_of Registry (RegistryTable 11) 2
+      (get_member (codes "grandfathereds_preferred") ms)
+  redundants_preferred ← table_of Registry (RegistryTable 12) 2
+      (get_member (codes "redundants_preferred") ms)
   Ok (languages ∷ languages_preferred ∷ languages_suppress_script ∷ extlangs ∷ extlangs_preferred
       ∷ scripts ∷ scripts_preferred ∷ regions ∷ regions_preferred ∷ variants ∷ variants_preferred
       ∷ grandfathereds_preferred ∷ redundants_preferred ∷ [])
@@ -70,8 +81,10 @@ registry_in ms = do
 unfoldable pub fallback_in : Members → Result (List (List TextRow)) ShapePlace
 fallback_in ms = do
   likely_language ← table_of Fallback (FallbackTable 0) 3 (get_member (codes "likely_language") ms)
-  likely_language_script ← table_of Fallback (FallbackTable 1) 3 (get_member (codes "likely_language_script") ms)
-  likely_language_region ← table_of Fallback (FallbackTable 2) 3 (get_member (codes "likely_language_region") ms)
+  likely_language_script ← table_of Fallback (FallbackTable 1) 3
+      (get_member (codes "likely_language_script") ms)
+  likely_language_region ← table_of Fallback (FallbackTable 2) 3
+      (get_member (codes "likely_language_region") ms)
   parents ← table_of Fallback (FallbackTable 3) 2 (get_member (codes "parents") ms)
   Ok (likely_language ∷ likely_language_script ∷ likely_language_region ∷ parents ∷ [])
 

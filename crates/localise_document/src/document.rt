@@ -1,9 +1,11 @@
 ghost use Rattle.std.specs.Prelude.{◌≡◌, ◌≢◌, Err, Ok, Some, option_map, IfErr, IfOk};
 ghost use Rattle.serde_json.specs.View.{view};
-ghost use Rattle.localise_document.specs.Document.{IsDocument, IsDocumentFault, document_of, json_of, root_of};
+ghost use Rattle.localise_document.specs.Document.{IsDocument, IsDocumentFault, document_of};
+ghost use Rattle.localise_document.specs.Document.{json_of, root_of};
 ghost use Rattle.localise_document.specs.Misread.{IsFaultOf};
 ghost use Rattle.localise_document.specs.Objects.{IsDocumentObject};
-ghost use Rattle.localise_document.specs.declared.error.DocumentError.TheVariants.{NoMemory, NotJson};
+ghost use Rattle.localise_document.specs.declared.error.DocumentError.TheVariants.{NoMemory};
+ghost use Rattle.localise_document.specs.declared.error.DocumentError.TheVariants.{NotJson};
 
 use crate::bundles::{BundleReader, with_root};
 use crate::error::{DocumentError, Misread};

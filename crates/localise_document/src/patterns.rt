@@ -1,6 +1,7 @@
 ghost use Rattle.std.specs.Prelude.{◌≡◌, option_map, IfOk};
 ghost use Rattle.serde_json.specs.View.{view};
-ghost use Rattle.localise_document.specs.Patterns.{default_pattern, default_patterns, patterns_of, special_of, optional_special, text_in};
+ghost use Rattle.localise_document.specs.Patterns.{default_pattern, default_patterns, patterns_of};
+ghost use Rattle.localise_document.specs.Patterns.{special_of, optional_special, text_in};
 ghost use Rattle.localise_document.specs.Shape.{optional};
 
 use crate::Field;

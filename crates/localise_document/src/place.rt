@@ -1,5 +1,6 @@
 ghost use Rattle.std.specs.Prelude.{◌≡◌};
-ghost use Rattle.localise_document.specs.Names.{fallback_name, field_name, registry_name, section_name};
+ghost use Rattle.localise_document.specs.Names.{fallback_name, field_name, registry_name};
+ghost use Rattle.localise_document.specs.Names.{section_name};
 ghost use Rattle.localise_document.specs.Shape.{place_of};
 
 /// A part of a document.

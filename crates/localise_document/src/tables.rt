@@ -5,8 +5,10 @@ ghost use Rattle.serde_json.specs.View.{items_view, view};
 ghost use Rattle.localise_document.specs.Contents.{fallback_lists, registry_lists};
 ghost use Rattle.localise_document.specs.Misread.{IsFaultOf};
 ghost use Rattle.localise_document.specs.Names.{fallback_names, registry_names};
-ghost use Rattle.localise_document.specs.Objects.{HasFallbackMembers, HasRegistryMembers, IsFallbackSection, IsRegistrySection};
-ghost use Rattle.localise_document.specs.Tables.{cell_of, cells_of, fallback_of, registry_of, row_of, section_of, table_of};
+ghost use Rattle.localise_document.specs.Objects.{HasFallbackMembers, HasRegistryMembers};
+ghost use Rattle.localise_document.specs.Objects.{IsFallbackSection, IsRegistrySection};
+ghost use Rattle.localise_document.specs.Tables.{cell_of, cells_of, fallback_of, registry_of};
+ghost use Rattle.localise_document.specs.Tables.{row_of, section_of, table_of};
 
 use crate::error::Misread;
 use crate::members::members_by_name;

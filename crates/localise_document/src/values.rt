@@ -1,7 +1,8 @@
 ghost use Rattle.std.specs.Prelude.{◌≡◌, [], option_map, IfOk};
 ghost use Rattle.serde_json.specs.View.{items_view, view};
 ghost use Rattle.localise_document.specs.Hex.{bytes_of};
-ghost use Rattle.localise_document.specs.Shape.{count_of, each_text, needed, optional, optional_or, text_list_of, text_of};
+ghost use Rattle.localise_document.specs.Shape.{count_of, each_text, needed, optional, optional_or};
+ghost use Rattle.localise_document.specs.Shape.{text_list_of, text_of};
 
 use crate::Field;
 use hex::FromHexError;

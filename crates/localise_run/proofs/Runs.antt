@@ -1,5 +1,7 @@
 -- What a run gives, from its document's tables up to the bytes and the words.
-use Rattle.std.proofs.Common.{◌≡◌, ◌≢◌, ◌⊎◌, ℕ, ◌+◌, ◌≤◌, ◌<◌, List, [], ◌++◌, Option, Some, None, Ok, Err, Result, Bool, length, String, Global, refl, sym, subst, inl, inr, arith, ◌∙◌}
+use Rattle.std.proofs.Common.{◌≡◌, ◌≢◌, ◌⊎◌, ℕ, ◌+◌, ◌≤◌, ◌<◌, List, [], ◌++◌, Option, Some, None}
+use Rattle.std.proofs.Common.{Ok, Err, Result, Bool, length, String, Global, refl, sym, subst, inl}
+use Rattle.std.proofs.Common.{inr, arith, ◌∙◌}
 use Rattle.std.specs.Prelude.{IfSome, OnErr, OnOk, replicate}
 use Rattle.std.proofs.lemmas.List.{append-nil, length-replicate}
 use Rattle.icu_list.specs.Patterns.{Patterns}
@@ -12,11 +14,14 @@ use Rattle.localise_document.specs.Document.{IsDocument, IsDocumentFault}
 use Rattle.localise_document.specs.declared.error.DocumentError.{DocumentError}
 use Rattle.localise_document.specs.declared.error.DocumentError.TheVariants as documents
 use Rattle.localise_run.proofs.Written.{gives_along}
-use Rattle.localise_run.specs.Answers.{Begins, IsAnswer, IsBegun, IsMade, IsRefusedBy, Says, SaysFirst, document, in_bundles, in_requests, in_tables, misshapen, not_json, status_of, too_long}
+use Rattle.localise_run.specs.Answers.{Begins, IsAnswer, IsBegun, IsMade, IsRefusedBy, Says}
+use Rattle.localise_run.specs.Answers.{SaysFirst, document, in_bundles, in_requests, in_tables}
+use Rattle.localise_run.specs.Answers.{misshapen, not_json, status_of, too_long}
 use Rattle.localise_run.specs.Causes.{status_of_document, status_of_reading, status_of_sink}
 use Rattle.localise_run.specs.Commands.{IsCommand}
 use Rattle.localise_run.specs.Laws.{OneAnswer}
-use Rattle.localise_run.specs.Run.{AreRead, Appended, Gives, GivesRead, IsFlushed, Runs, Written, failed, flushed, no_memory, untouched, written}
+use Rattle.localise_run.specs.Run.{AreRead, Appended, Gives, GivesRead, IsFlushed, Runs, Written}
+use Rattle.localise_run.specs.Run.{failed, flushed, no_memory, untouched, written}
 use Rattle.localise_run.specs.Tables.{HasTables, IsTableStatus, faulty}
 use Rattle.localise_run.specs.Tables.{no_memory as no_table_memory}
 use Rattle.localise_run.specs.declared.command.Command.{Command}
@@ -24,7 +29,11 @@ use Rattle.localise_run.specs.declared.command.Command.TheVariants.{Render, Walk
 use Rattle.localise_status.specs.Classes.{IsFailure, class_of}
 use Rattle.localise_status.specs.FaultLines.{IsReported, whole, front}
 use Rattle.localise_status.specs.declared.status.Status.{Status}
-use Rattle.localise_status.specs.declared.status.Status.TheVariants.{Done, BadWords, NotJson, Shape, Table, Bundle, DuplicateLocale, Root, Request as OfRequest, ReadFault, WriteFault, NoMemory, TooLong}
+use Rattle.localise_status.specs.declared.status.Status.TheVariants.{Done, BadWords, NotJson, Shape}
+use Rattle.localise_status.specs.declared.status.Status.TheVariants.{Table, Bundle, DuplicateLocale}
+use Rattle.localise_status.specs.declared.status.Status.TheVariants.{Root, Request as OfRequest}
+use Rattle.localise_status.specs.declared.status.Status.TheVariants.{ReadFault, WriteFault}
+use Rattle.localise_status.specs.declared.status.Status.TheVariants.{NoMemory, TooLong}
 use Rattle.reading.specs.Reading.{IsReadError, most_bytes}
 use Rattle.reading.specs.declared.error.ReadError.{ReadError}
 use Rattle.reading.specs.declared.error.ReadError.TheVariants as unread
@@ -35,9 +44,12 @@ use Rattle.writeable_core.specs.declared.sink.SinkError.TheVariants as sink
 
 -- ---- over a document
 
-module _ {O : Type 0} (took : O → List ℕ → O → Type 0) (faults : O → ℕ) (takes_memory : O → Bool) (command : Command) (d : Contents) where
+module _ {O : Type 0} (took : O → List ℕ → O → Type 0) (faults : O → ℕ) (takes_memory : O → Bool)
+    (command : Command) (d : Contents) where
   abbrev GivesAnswer : O → O → Status → Type 0
-  GivesAnswer old new status = Gives took (IsAnswer command d) (IsBegun command d) (written faults takes_memory old new) status
+  GivesAnswer old new status =
+      Gives took (IsAnswer command d) (IsBegun command d)
+      (written faults takes_memory old new) status
 
   -- a row of its tables is faulty, or memory ran out
   pub tables_fail : (o : O) (status : Status) → IsTableStatus d status → GivesAnswer o o status
@@ -48,49 +60,73 @@ module _ {O : Type 0} (took : O → List ℕ → O → Type 0) (faults : O → �
   -- bundles or a root are refused, or memory ran out
   refusal_fails : (o : O) (T : Tables) (e : RenderError) → HasTables d T
       → (e ≢ refusals.NoMemory → IsRefusal T d.bundles d.root e) → GivesAnswer o o (status_of e)
-  refusal_fails o T (refusals.Bundle i cause) tables is = (in_bundles tables (is (λ same. cc)) refl refl, refl)
-  refusal_fails o T (refusals.DuplicateLocale i) tables is = (in_bundles tables (is (λ same. cc)) refl refl, refl)
-  refusal_fails o T (refusals.Root fault) tables is = (in_bundles tables (is (λ same. cc)) refl refl, refl)
+  refusal_fails o T (refusals.Bundle i cause) tables is =
+      (in_bundles tables (is (λ same. cc)) refl refl, refl)
+  refusal_fails o T (refusals.DuplicateLocale i) tables is =
+      (in_bundles tables (is (λ same. cc)) refl refl, refl)
+  refusal_fails o T (refusals.Root fault) tables is =
+      (in_bundles tables (is (λ same. cc)) refl refl, refl)
   refusal_fails o T (refusals.Tag cause) tables is = untouched refl
   refusal_fails o T refusals.ChainLoops tables is = untouched refl
   refusal_fails o T refusals.Sink tables is = untouched refl
   refusal_fails o T refusals.NoMemory tables is = untouched refl
 
   -- and so the document's answer is
-  pub bundles_fail : (o : O) (T : Tables) (status : Status) → HasTables d T → IsRefusedBy T d.bundles d.root status → GivesAnswer o o status
+  pub bundles_fail : (o : O) (T : Tables) (status : Status) → HasTables d T
+      → IsRefusedBy T d.bundles d.root status → GivesAnswer o o status
   bundles_fail o T status tables refused =
-      subst (GivesAnswer o o) (sym refused.status_is) (refusal_fails o T refused.refusal tables refused.is)
+      subst (GivesAnswer o o) (sym refused.status_is)
+      (refusal_fails o T refused.refusal tables refused.is)
 
   -- what the command makes of its requests is its answer
-  pub requests_give : (old new : O) (T : Tables) (bundles : List Meaning) (root : Patterns) (status : Status) → HasTables d T
+  pub requests_give : (old new : O) (T : Tables) (bundles : List Meaning) (root : Patterns)
+      (status : Status) → HasTables d T
       → AreAccepted T d.bundles d.root bundles root
-      → Gives took (IsMade command T bundles root d.requests) (Begins command T bundles root d.requests) (written faults takes_memory old new) status
+      → Gives took (IsMade command T bundles root d.requests)
+      (Begins command T bundles root d.requests) (written faults takes_memory old new) status
       → GivesAnswer old new status
   requests_give old new T bundles root status tables accepted g =
-      gives_along took (IsMade command T bundles root d.requests) (IsAnswer command d) (Begins command T bundles root d.requests) (IsBegun command d)
+      gives_along took (IsMade command T bundles root d.requests) (IsAnswer command d)
+      (Begins command T bundles root d.requests) (IsBegun command d)
       (written faults takes_memory old new)
       (λ (s : Status) (text : List ℕ) made. in_requests tables accepted made)
-      (λ (text : List ℕ) begins. record { T = T; tables = tables; bundles = bundles; root = root; accepted = accepted; begins = begins })
+      (λ (text : List ℕ) begins.
+      record {
+        T = T;
+        tables = tables;
+        bundles = bundles;
+        root = root;
+        accepted = accepted;
+        begins = begins;
+      })
       status g
 
 -- ---- over bytes
 
-module _ {O : Type 0} (took : O → List ℕ → O → Type 0) (faults : O → ℕ) (takes_memory : O → Bool) (command : Command) (bytes : List ℕ) where
+module _ {O : Type 0} (took : O → List ℕ → O → Type 0) (faults : O → ℕ) (takes_memory : O → Bool)
+    (command : Command) (bytes : List ℕ) where
   abbrev GivesSaid : O → O → Status → Type 0
-  GivesSaid old new status = Gives took (Says command bytes) (SaysFirst command bytes) (written faults takes_memory old new) status
+  GivesSaid old new status =
+      Gives took (Says command bytes) (SaysFirst command bytes)
+      (written faults takes_memory old new) status
 
   -- they are no document, or memory ran out
-  pub document_fails : (o : O) (e : DocumentError) → length bytes ≤ most_bytes → (e ≢ documents.NoMemory → IsDocumentFault bytes e)
+  pub document_fails : (o : O) (e : DocumentError) → length bytes ≤ most_bytes
+      → (e ≢ documents.NoMemory → IsDocumentFault bytes e)
       → GivesSaid o o (status_of_document e)
   document_fails o documents.NotJson within is = (not_json within (is (λ same. cc)) refl refl, refl)
-  document_fails o (documents.Shape place) within is = (misshapen within (is (λ same. cc)) refl refl, refl)
+  document_fails o (documents.Shape place) within is =
+      (misshapen within (is (λ same. cc)) refl refl, refl)
   document_fails o documents.NoMemory within is = untouched refl
 
   -- the answer of the document is theirs
-  pub document_gives : (old new : O) (d : Contents) (status : Status) → length bytes ≤ most_bytes → IsDocument bytes d
-      → Gives took (IsAnswer command d) (IsBegun command d) (written faults takes_memory old new) status → GivesSaid old new status
+  pub document_gives : (old new : O) (d : Contents) (status : Status) → length bytes ≤ most_bytes
+      → IsDocument bytes d
+      → Gives took (IsAnswer command d) (IsBegun command d)
+      (written faults takes_memory old new) status → GivesSaid old new status
   document_gives old new d status within is g =
-      gives_along took (IsAnswer command d) (Says command bytes) (IsBegun command d) (SaysFirst command bytes) (written faults takes_memory old new)
+      gives_along took (IsAnswer command d) (Says command bytes) (IsBegun command d)
+      (SaysFirst command bytes) (written faults takes_memory old new)
       (λ (s : Status) (text : List ℕ) answer. document within is answer)
       (λ (text : List ℕ) begun. record { within = within; d = d; document = is; begun = begun })
       status g
@@ -102,18 +138,23 @@ told : (left : Option (List ℕ)) (bytes : List ℕ) → IfSome left (λ t. byte
 told None bytes h = tt
 told (Some t) bytes h = sym h
 
-module _ {O : Type 0} (took : O → List ℕ → O → Type 0) (faults : O → ℕ) (takes_memory : O → Bool) (command : Command) (left : Option (List ℕ)) (before now : ℕ) where
+module _ {O : Type 0} (took : O → List ℕ → O → Type 0) (faults : O → ℕ) (takes_memory : O → Bool)
+    (command : Command) (left : Option (List ℕ)) (before now : ℕ) where
   abbrev RunsTo : O → O → Status → Type 0
-  RunsTo old new status = Runs took command left before now (written faults takes_memory old new) (class_of status) status
+  RunsTo old new status =
+      Runs took command left before now (written faults takes_memory old new)
+      (class_of status) status
 
   given : (old new : O) (bytes : List ℕ) (status : Status) → IfSome left (λ t. bytes ≡ t)
-      → Gives took (Says command bytes) (SaysFirst command bytes) (written faults takes_memory old new) status
+      → Gives took (Says command bytes) (SaysFirst command bytes)
+      (written faults takes_memory old new) status
       → GivesRead took command left (written faults takes_memory old new) status
   given old new bytes status all g = record { bytes = bytes; read = told left bytes all; gives = g }
 
   -- all bytes were read
   pub bytes_run : (old new : O) (bytes : List ℕ) (status : Status) → IfSome left (λ t. bytes ≡ t)
-      → Gives took (Says command bytes) (SaysFirst command bytes) (written faults takes_memory old new) status → RunsTo old new status
+      → Gives took (Says command bytes) (SaysFirst command bytes)
+      (written faults takes_memory old new) status → RunsTo old new status
   bytes_run old new bytes Done all g = given old new bytes Done all g
   bytes_run old new bytes BadWords all g = absurd g
   bytes_run old new bytes NotJson all g = given old new bytes NotJson all g
@@ -129,7 +170,9 @@ module _ {O : Type 0} (took : O → List ℕ → O → Type 0) (faults : O → �
   bytes_run old new bytes TooLong all g = given old new bytes TooLong all g
 
 -- bytes don't say that words are no command
-pub never_words : {O : Type 0} (took : O → List ℕ → O → Type 0) (Says : Status → List ℕ → Type 0) (First : List ℕ → Type 0) (x : Written O)
+pub never_words :
+    {O : Type 0} (took : O → List ℕ → O → Type 0) (Says : Status → List ℕ → Type 0)
+    (First : List ℕ → Type 0) (x : Written O)
     (status : Status) → Gives took Says First x status → status ≡ BadWords → ⊥
 never_words took Says First x status g same = subst (Gives took Says First x) same g
 
@@ -141,10 +184,12 @@ some_read (Some t) = (t, refl)
 -- and more than are read
 some_long : (most : ℕ) (left : Option (List ℕ)) → IfSome left (λ t. most < length t)
     → (bytes : List ℕ) × AreRead left bytes × (most < length bytes)
-some_long most None h = (replicate (most + 1) 0, tt, omega (arith, length-replicate {A = ℕ} (most + 1) 0))
+some_long most None h =
+    (replicate (most + 1) 0, tt, omega (arith, length-replicate {A = ℕ} (most + 1) 0))
 some_long most (Some t) h = (t, refl, h)
 
-module _ {O : Type 0} (took : O → List ℕ → O → Type 0) (faults : O → ℕ) (takes_memory : O → Bool) (command : Command) (left : Option (List ℕ)) (before now : ℕ) where
+module _ {O : Type 0} (took : O → List ℕ → O → Type 0) (faults : O → ℕ) (takes_memory : O → Bool)
+    (command : Command) (left : Option (List ℕ)) (before now : ℕ) where
   -- reading failed
   pub reading_runs : (o : O) (e : ReadError) → IsReadError most_bytes before now left e
       → RunsTo took faults takes_memory command left before now o o (status_of_reading e)
@@ -159,7 +204,8 @@ module _ {O : Type 0} (took : O → List ℕ → O → Type 0) (faults : O → �
 -- ---- over words
 
 -- words are one command
-pub one_command : (words : List (String Global)) (a b : Command) → IsCommand words a → IsCommand words b → a ≡ b
+pub one_command : (words : List (String Global)) (a b : Command) → IsCommand words a
+    → IsCommand words b → a ≡ b
 one_command words = by
   where
     by : (a b : Command) → IsCommand words a → IsCommand words b → a ≡ b
@@ -179,19 +225,29 @@ one_command words = by
 
 -- ---- what a run's answer says
 
-module _ {O : Type 0} (took : O → List ℕ → O → Type 0) (faults : O → ℕ) (takes_memory : O → Bool) (command : Command) (left : Option (List ℕ)) (before now : ℕ) (old new : O) where
+module _ {O : Type 0} (took : O → List ℕ → O → Type 0) (faults : O → ℕ) (takes_memory : O → Bool)
+    (command : Command) (left : Option (List ℕ)) (before now : ℕ) (old new : O) where
   abbrev Ran : Status → Type 0
   Ran status = RunsTo took faults takes_memory command left before now old new status
 
   -- `Done`: the bytes are answered so, and the lines were appended
-  pub headline : (held : O → Option (List ℕ)) → ((a b : O) (t h : List ℕ) → took a t b → held a ≡ Some h → held b ≡ Some (h ++ t))
+  pub headline : (held : O → Option (List ℕ))
+      → ((a b : O) (t h : List ℕ) → took a t b → held a ≡ Some h → held b ≡ Some (h ++ t))
       → (status : Status) → status ≡ Done → Ran status
-      → (bytes : List ℕ) × AreRead left bytes × ((lines : List ℕ) × Says command bytes Done lines × Appended took held old lines new)
+      → (bytes : List ℕ) × AreRead left bytes
+      × ((lines : List ℕ) × Says command bytes Done lines × Appended took held old lines new)
   headline held took_held status done ran =
       let r : Ran Done = subst Ran done ran in (
         r.bytes,
         r.read,
-        (r.gives.text, r.gives.is, record { taken = r.gives.taken; told = λ (h : List ℕ) is. took_held old new r.gives.text h r.gives.taken is }),
+        (
+          r.gives.text,
+          r.gives.is,
+          record {
+            taken = r.gives.taken;
+            told = λ (h : List ℕ) is. took_held old new r.gives.text h r.gives.taken is;
+          },
+        ),
       )
 
   -- and so behind a flush
@@ -251,14 +307,16 @@ module _ {O : Type 0} (took : O → List ℕ → O → Type 0) (faults : O → �
   exact one (Bundle i cause) r = certainly one (Bundle i cause) r.bytes [] r.read r.gives.0
   exact one (DuplicateLocale i) r = certainly one (DuplicateLocale i) r.bytes [] r.read r.gives.0
   exact one (Root fault) r = certainly one (Root fault) r.bytes [] r.read r.gives.0
-  exact one (OfRequest i cause) r = certainly one (OfRequest i cause) r.bytes r.gives.text r.read r.gives.is
+  exact one (OfRequest i cause) r =
+      certainly one (OfRequest i cause) r.bytes r.gives.text r.read r.gives.is
   exact one ReadFault r = failing ReadFault tt
   exact one WriteFault r = failing WriteFault tt
   exact one NoMemory r = failing NoMemory tt
   exact one TooLong r = certainly one TooLong r.bytes [] r.read r.gives.0
 
   -- of the failures only want of memory comes where no count rose
-  unfailing : (status : Status) → Ran status → IsFailure status → (Rose before now → ⊥) → (Rose (faults old) (faults new) → ⊥) → status ≡ NoMemory
+  unfailing : (status : Status) → Ran status → IsFailure status → (Rose before now → ⊥)
+      → (Rose (faults old) (faults new) → ⊥) → status ≡ NoMemory
   unfailing ReadFault r fails source out = absurd (source r.0)
   unfailing WriteFault r fails source out = absurd (out r.gives.0)
   unfailing NoMemory r fails source out = refl
@@ -289,15 +347,19 @@ module _ {O : Type 0} (took : O → List ℕ → O → Type 0) (faults : O → �
 
 -- ---- what is told of it
 
-module _ {E : Type 0} (took : E → List ℕ → E → Type 0) (faults : E → ℕ) (takes_memory : E → Bool) (old new : E) (line : List ℕ) where
-  pub reported : (r : Result (Unit {0}) SinkError) → OnOk r (took old line new) → OnErr r (TookPrefix took old line new)
-      → HasCause (faults old) (faults new) (takes_memory old) r → IsReported took faults takes_memory old line new
+module _ {E : Type 0} (took : E → List ℕ → E → Type 0) (faults : E → ℕ) (takes_memory : E → Bool)
+    (old new : E) (line : List ℕ) where
+  pub reported : (r : Result (Unit {0}) SinkError) → OnOk r (took old line new)
+      → OnErr r (TookPrefix took old line new)
+      → HasCause (faults old) (faults new) (takes_memory old) r
+      → IsReported took faults takes_memory old line new
   reported (Ok u) ok err cause = whole ok
   reported (Err sink.Fault) ok err cause = front err (inl (cause.fault refl))
   reported (Err sink.NoMemory) ok err cause = front err (inr (cause.no_memory refl))
 
   -- the output was flushed, or failed then
-  pub flushed_behind : (flushes : E → E → Type 0) (answer : Status) → took old [] new → flushes old new
+  pub flushed_behind : (flushes : E → E → Type 0) (answer : Status) → took old [] new
+      → flushes old new
       → IsFlushed took faults takes_memory flushes old new answer answer
   flushed_behind flushes answer taken all = flushed taken all refl
 

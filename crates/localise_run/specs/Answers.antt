@@ -34,41 +34,53 @@ status_of refusals.Sink = status.NoMemory
 status_of refusals.NoMemory = status.NoMemory
 
 -- the status of bundles or a root that are refused, or of want of memory
-pub record IsRefusedBy (T : Tables) (bundles : List BundleText) (root : PatternTexts) (answer : Status) : Type 0 where
+pub record IsRefusedBy (T : Tables) (bundles : List BundleText) (root : PatternTexts)
+    (answer : Status) : Type 0 where
   pub refusal : RenderError
   pub is : refusal ≢ refusals.NoMemory → IsRefusal T bundles root refusal
   pub status_is : answer ≡ status_of refusal
 
 -- what a command makes of requests over tables, bundles and root
-abbrev pub IsMade : Command → Tables → List Meaning → Patterns → List Request → Status → List ℕ → Type 0
+abbrev pub IsMade : Command → Tables → List Meaning → Patterns → List Request → Status
+    → List ℕ → Type 0
 IsMade Render T bundles root requests status text = AreRendered T bundles root requests status text
 IsMade Walk T bundles root requests status text = AreWalked T requests status text
-IsMade (Generate n) T bundles root requests status text = AreGenerated T bundles root (made requests 0 n) status text
+IsMade (Generate n) T bundles root requests status text =
+    AreGenerated T bundles root (made requests 0 n) status text
 
--- what begins the text that a command makes: the lines of some requests in front, or the three lines
+-- what begins the text that a command makes: the lines of some requests in front, or the three
+-- lines
 abbrev pub Begins : Command → Tables → List Meaning → Patterns → List Request → List ℕ → Type 0
 Begins Render T bundles root requests text = BeginRendered T bundles root requests text
 Begins Walk T bundles root requests text = BeginWalked T requests text
-Begins (Generate n) T bundles root requests text = AreNumbers T bundles root (made requests 0 n) text
+Begins (Generate n) T bundles root requests text =
+    AreNumbers T bundles root (made requests 0 n) text
 
--- the answer of a document: the first of a faulty table, a faulty bundle, a faulty root, and what its requests are answered
-pub data IsAnswer (command : Command) (d : Contents) (answer : Status) (text : List ℕ) : Type 0 where
+-- the answer of a document: the first of a faulty table, a faulty bundle, a faulty root, and what
+-- its requests are answered
+pub data IsAnswer (command : Command) (d : Contents) (answer : Status) (text : List ℕ) :
+    Type 0 where
   in_tables : {cause : TableCause} → IsTableFault d cause → answer ≡ status.Table cause → text ≡ []
       → IsAnswer command d answer text
-  in_bundles : {T : Tables} {refusal : RenderError} → HasTables d T → IsRefusal T d.bundles d.root refusal
+  in_bundles : {T : Tables} {refusal : RenderError} → HasTables d T
+      → IsRefusal T d.bundles d.root refusal
       → answer ≡ status_of refusal → text ≡ [] → IsAnswer command d answer text
   in_requests : {T : Tables} {bundles : List Meaning} {root : Patterns} → HasTables d T
-      → AreAccepted T d.bundles d.root bundles root → IsMade command T bundles root d.requests answer text
+      → AreAccepted T d.bundles d.root bundles root
+      → IsMade command T bundles root d.requests answer text
       → IsAnswer command d answer text
 
 -- the answer of bytes: the first of too long, no JSON, no document, and the answer of the document
 pub data Says (command : Command) (bytes : List ℕ) (answer : Status) (text : List ℕ) : Type 0 where
-  too_long : most_bytes < length bytes → answer ≡ status.TooLong → text ≡ [] → Says command bytes answer text
+  too_long : most_bytes < length bytes → answer ≡ status.TooLong → text ≡ []
+      → Says command bytes answer text
   not_json : length bytes ≤ most_bytes → json_of bytes ≡ None → answer ≡ status.NotJson → text ≡ []
       → Says command bytes answer text
-  misshapen : {place : ShapePlace} → length bytes ≤ most_bytes → IsMisshapen bytes place → answer ≡ status.Shape place
+  misshapen : {place : ShapePlace} → length bytes ≤ most_bytes → IsMisshapen bytes place
+      → answer ≡ status.Shape place
       → text ≡ [] → Says command bytes answer text
-  document : {d : Contents} → length bytes ≤ most_bytes → IsDocument bytes d → IsAnswer command d answer text
+  document : {d : Contents} → length bytes ≤ most_bytes → IsDocument bytes d
+      → IsAnswer command d answer text
       → Says command bytes answer text
 
 -- a text that begins what is appended of a document, whose tables, bundles and root are accepted

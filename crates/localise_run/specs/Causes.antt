@@ -28,13 +28,15 @@ status_of_document (document.Shape place) = status.Shape place
 status_of_document document.NoMemory = status.NoMemory
 
 abbrev pub status_of_registry : RegistryError → Status
-status_of_registry (tags.DuplicateKey t row) = status.Table (table.Registry (tags.DuplicateKey t row))
+status_of_registry (tags.DuplicateKey t row) =
+    status.Table (table.Registry (tags.DuplicateKey t row))
 status_of_registry (tags.BadKey t row) = status.Table (table.Registry (tags.BadKey t row))
 status_of_registry (tags.BadValue t row) = status.Table (table.Registry (tags.BadValue t row))
 status_of_registry tags.NoMemory = status.NoMemory
 
 abbrev pub status_of_fallback : TableError → Status
-status_of_fallback (locales.DuplicateKey t row) = status.Table (table.Fallback (locales.DuplicateKey t row))
+status_of_fallback (locales.DuplicateKey t row) =
+    status.Table (table.Fallback (locales.DuplicateKey t row))
 status_of_fallback (locales.BadKey t row) = status.Table (table.Fallback (locales.BadKey t row))
 status_of_fallback (locales.BadValue t row) = status.Table (table.Fallback (locales.BadValue t row))
 status_of_fallback locales.NoMemory = status.NoMemory

@@ -17,7 +17,8 @@ pub record IsNumber (digits : List ℕ) (n : ℕ) : Type 0 where
 abbrev pub AreWords : Command → List (List ℕ) → Type 0
 AreWords Render words = words ≡ codes "render" ∷ []
 AreWords Walk words = words ≡ codes "walk" ∷ []
-AreWords (Generate n) words = (digits : List ℕ) × IsNumber digits n × (words ≡ codes "generate" ∷ digits ∷ [])
+AreWords (Generate n) words =
+    (digits : List ℕ) × IsNumber digits n × (words ≡ codes "generate" ∷ digits ∷ [])
 
 -- the words of the command line are a command
 abbrev pub IsCommand : List (String Global) → Command → Type 0

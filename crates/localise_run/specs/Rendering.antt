@@ -21,10 +21,12 @@ module _ (T : Tables) (bundles : List Meaning) (root : Patterns) where
     pub localised : IsLocalised T.fallbacker bundles root locale q text
     pub line_is : line ≡ line_of text
 
-  -- why a request gets none: its tag has no locale, or its walk comes round before a locale translates
+  -- why a request gets none: its tag has no locale, or its walk comes round before a locale
+  -- translates
   pub data IsLineFault (q : Request) (cause : RequestCause) : Type 0 where
     in_tag : HasTagCause T q cause → IsLineFault q cause
-    in_walk : {l : Locale} → Wants T q l → ComesRound T.fallbacker bundles l q → cause ≡ ChainLoops → IsLineFault q cause
+    in_walk : {l : Locale} → Wants T q l → ComesRound T.fallbacker bundles l q → cause ≡ ChainLoops
+        → IsLineFault q cause
 
   -- the status and the lines of all requests
   abbrev pub AreRendered : List Request → Status → List ℕ → Type 0

@@ -23,7 +23,8 @@ module _ (Line : Request → List ℕ → Type 0) (Fault : Request → RequestCa
     pub are : AreLines (take count requests) text
 
   -- request i gets no line, and those before it do
-  pub record StopsAt (requests : List Request) (i : ℕ) (cause : RequestCause) (text : List ℕ) : Type 0 where
+  pub record StopsAt (requests : List Request) (i : ℕ) (cause : RequestCause) (text : List ℕ) :
+      Type 0 where
     pub request : Request
     pub request_is : slice_get requests i ≡ Some request
     pub before : AreLines (take i requests) text
@@ -32,5 +33,6 @@ module _ (Line : Request → List ℕ → Type 0) (Fault : Request → RequestCa
   -- the status of requests, and the lines before it
   pub data AreAnswered (requests : List Request) (status : Status) (text : List ℕ) : Type 0 where
     all : AreLines requests text → status ≡ Done → AreAnswered requests status text
-    up_to : {i : ℕ} {cause : RequestCause} → StopsAt requests i cause text → status ≡ Refused i cause
+    up_to : {i : ℕ} {cause : RequestCause} → StopsAt requests i cause text
+        → status ≡ Refused i cause
         → AreAnswered requests status text

@@ -1,7 +1,8 @@
 -- What a run does: which answer it gives, and what it appends.
 use Rattle.std.specs.Prelude.{◌≡◌, ℕ, List, [], ◌++◌, Bool, true, Option, Some, IfSome}
 use Rattle.localise_run.specs.Answers.{Says, SaysFirst}
-use Rattle.localise_status.specs.Classes.{Class, Words, Reading, Refused, Answered, Writing, Memory, class_of}
+use Rattle.localise_status.specs.Classes.{Class, Words, Reading, Refused, Answered, Writing, Memory}
+use Rattle.localise_status.specs.Classes.{class_of}
 use Rattle.localise_run.specs.declared.command.Command.{Command}
 use Rattle.localise_status.specs.declared.status.Status.{Status}
 use Rattle.localise_status.specs.declared.status.Status.TheVariants.{NoMemory, WriteFault}
@@ -12,7 +13,8 @@ abbrev pub AreRead : Option (List ℕ) → List ℕ → Type 0
 AreRead left bytes = IfSome left (λ told. told ≡ bytes)
 
 -- the output took the text, and holds it behind what it held, where it tells that
-pub record Appended {O : Type 0} (took : O → List ℕ → O → Type 0) (held : O → Option (List ℕ)) (old : O) (text : List ℕ) (new : O) : Type 0 where
+pub record Appended {O : Type 0} (took : O → List ℕ → O → Type 0) (held : O → Option (List ℕ))
+    (old : O) (text : List ℕ) (new : O) : Type 0 where
   pub taken : took old text new
   pub told : (before : List ℕ) → held old ≡ Some before → held new ≡ Some (before ++ text)
 
@@ -35,21 +37,24 @@ written faults takes_memory old new = record {
 }
 
 -- all of a text of this kind was taken
-pub record TookAll {O : Type 0} (took : O → List ℕ → O → Type 0) (x : Written O) (Is : List ℕ → Type 0) : Type 0 where
+pub record TookAll {O : Type 0} (took : O → List ℕ → O → Type 0) (x : Written O)
+    (Is : List ℕ → Type 0) : Type 0 where
   pub text : List ℕ
   pub is : Is text
   pub taken : took x.old text x.new
 
--- `Says` tells which answers there are, and the text that each appends; `First` tells texts that begin one
-module _ {O : Type 0} (took : O → List ℕ → O → Type 0) (Says : Status → List ℕ → Type 0) (First : List ℕ → Type 0) (x : Written O) where
+-- `Says` tells which answers there are, and the text that each appends; `First` tells texts that
+-- begin one
+module _ {O : Type 0} (took : O → List ℕ → O → Type 0) (Says : Status → List ℕ → Type 0)
+    (First : List ℕ → Type 0) (x : Written O) where
   -- a front of a text that begins one was taken
   pub record TookFront : Type 0 where
     pub text : List ℕ
     pub begins : First text
     pub front : TookPrefix took x.old text x.new
 
-  -- Memory ran out: before anything was taken, behind whole lines, or inside the output, if it takes
-  -- memory. So no line is cut, unless the output itself found no memory.
+  -- Memory ran out: before anything was taken, behind whole lines, or inside the output, if it
+  -- takes memory. So no line is cut, unless the output itself found no memory.
   pub data RanOut : Type 0 where
     untouched : x.new ≡ x.old → RanOut
     behind_lines : TookAll took x First → RanOut
@@ -69,14 +74,16 @@ module _ {O : Type 0} (took : O → List ℕ → O → Type 0) (Says : Status �
   Gives answer = Wrote (class_of answer) answer
 
 -- the bytes that were read are answered so
-pub record GivesRead {O : Type 0} (took : O → List ℕ → O → Type 0) (command : Command) (left : Option (List ℕ)) (x : Written O) (answer : Status) : Type 0 where
+pub record GivesRead {O : Type 0} (took : O → List ℕ → O → Type 0) (command : Command)
+    (left : Option (List ℕ)) (x : Written O) (answer : Status) : Type 0 where
   pub bytes : List ℕ
   pub read : AreRead left bytes
   pub gives : Gives took (Says command bytes) (SaysFirst command bytes) x answer
 
--- What a command does: where reading fails nothing is appended and the source's count rose, and else the bytes that were read
--- are answered.
-abbrev pub Runs : {O : Type 0} → (O → List ℕ → O → Type 0) → Command → Option (List ℕ) → ℕ → ℕ → Written O → Class → Status → Type 0
+-- What a command does: where reading fails nothing is appended and the source's count rose, and
+-- else the bytes that were read are answered.
+abbrev pub Runs : {O : Type 0} → (O → List ℕ → O → Type 0) → Command → Option (List ℕ) → ℕ → ℕ
+    → Written O → Class → Status → Type 0
 Runs took command left before now x Reading answer = Rose before now × (x.new ≡ x.old)
 Runs took command left before now x Words answer = ⊥
 Runs took command left before now x Refused answer = GivesRead took command left x answer
@@ -96,9 +103,12 @@ module _ {O : Type 0} (took : O → List ℕ → O → Type 0) (faults : O → �
         → IsFlushed ran new answer status
 
   -- A command runs, and its output is flushed.
-  pub record RunsAndFlushes (command : Command) (left : Option (List ℕ)) (before now : ℕ) (old new : O)
+  pub record RunsAndFlushes (command : Command) (left : Option (List ℕ))
+      (before now : ℕ) (old new : O)
       (status : Status) : Type 0 where
     pub answer : Status
     pub ran : O
-    pub runs : Runs took command left before now (written faults takes_memory old ran) (class_of answer) answer
+    pub runs :
+        Runs took command left before now (written faults takes_memory old ran)
+        (class_of answer) answer
     pub is_flushed : IsFlushed ran new answer status

@@ -1,4 +1,5 @@
--- The tables of a document, or the first row of them that is faulty: registry tables first, then fallback tables.
+-- The tables of a document, or the first row of them that is faulty: registry tables first, then
+-- fallback tables.
 use Rattle.std.specs.Prelude.{◌≡◌, ◌≢◌}
 use Rattle.icu_locale_fallback.specs.Faults as fallback
 use Rattle.icu_locale_fallback.specs.declared.rows.FallbackRows.{FallbackRows}
@@ -39,5 +40,6 @@ pub data IsTableFault (d : Contents) (cause : TableCause) : Type 0 where
 
 -- the status of a faulty row, or of want of memory
 pub data IsTableStatus (d : Contents) (status : Status) : Type 0 where
-  faulty : {cause : TableCause} → IsTableFault d cause → status ≡ Table cause → IsTableStatus d status
+  faulty : {cause : TableCause} → IsTableFault d cause → status ≡ Table cause
+      → IsTableStatus d status
   no_memory : status ≡ NoMemory → IsTableStatus d status

@@ -23,7 +23,8 @@ module _ (T : Tables) where
   -- why a request gets none: its tag has no locale, or its whole walk comes round
   pub data IsWalkFault (q : Request) (cause : RequestCause) : Type 0 where
     in_tag : HasTagCause T q cause → IsWalkFault q cause
-    in_walk : {l : Locale} {k : ℕ} → Wants T q l → Repeats T.fallbacker l k → cause ≡ ChainLoops → IsWalkFault q cause
+    in_walk : {l : Locale} {k : ℕ} → Wants T q l → Repeats T.fallbacker l k → cause ≡ ChainLoops
+        → IsWalkFault q cause
 
   -- the status and the lines of all requests
   abbrev pub AreWalked : List Request → Status → List ℕ → Type 0

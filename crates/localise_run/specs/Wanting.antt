@@ -14,4 +14,5 @@ Wants T q l = IsWantedOf T.registry (encode_utf8_all q.tag) l
 
 -- it asks for none, for this cause
 abbrev pub HasTagCause : Tables → Request → RequestCause → Type 0
-HasTagCause T q cause = (c : TagCause) × IsTagCause T.registry (encode_utf8_all q.tag) c × (cause ≡ Tag c)
+HasTagCause T q cause = (c : TagCause) × IsTagCause T.registry (encode_utf8_all q.tag) c
+    × (cause ≡ Tag c)

@@ -1,6 +1,7 @@
 -- Writing the line of one request.
 use Rattle.std.specs.Prelude.{◌≡◌, ◌⊎◌, ℕ, List, true}
-use Rattle.localise_status.specs.Classes.{Class, Words, Reading, Refused, Answered, Writing, Memory, class_of}
+use Rattle.localise_status.specs.Classes.{Class, Words, Reading, Refused, Answered, Writing, Memory}
+use Rattle.localise_status.specs.Classes.{class_of}
 use Rattle.localise_run.specs.Run.{Written}
 use Rattle.localise_status.specs.declared.status.RequestCause.{RequestCause}
 use Rattle.localise_status.specs.declared.status.Status.{Status}
@@ -9,7 +10,8 @@ use Rattle.localise_texts.specs.declared.request.Request.{Request}
 use Rattle.writeable_core.specs.Sink.{Rose, TookPrefix}
 
 -- `Line` says which line a request gets, `Fault` why it gets none; the request has the number i
-module _ {O : Type 0} (took : O → List ℕ → O → Type 0) (Line : Request → List ℕ → Type 0) (Fault : Request → RequestCause → Type 0) (x : Written O) (i : ℕ) (q : Request) where
+module _ {O : Type 0} (took : O → List ℕ → O → Type 0) (Line : Request → List ℕ → Type 0)
+    (Fault : Request → RequestCause → Type 0) (x : Written O) (i : ℕ) (q : Request) where
   -- the line was taken
   pub record TookLine : Type 0 where
     pub line : List ℕ

@@ -1,6 +1,7 @@
 //! `generate`: requests made from those of a document, and three numbers of their lines.
 
-ghost use Rattle.std.specs.Prelude.{◌≡◌, ◌≢◌, ◌≤◌, ◌++◌, ◌∷◌, [], true, List, Some, IfErr, IfOk, OnErr, OnOk, length, slice_get, vec_len};
+ghost use Rattle.std.specs.Prelude.{◌≡◌, ◌≢◌, ◌≤◌, ◌++◌, ◌∷◌, [], true, List, Some, IfErr, IfOk};
+ghost use Rattle.std.specs.Prelude.{OnErr, OnOk, length, slice_get, vec_len};
 ghost use Rattle.localise.specs.Kept.{AreAlike};
 ghost use Rattle.localise.specs.Meaning.{Meaning};
 ghost use Rattle.localise.specs.Views.{meanings, root_of, tables_of};

@@ -1,8 +1,8 @@
 //! The program's runs: a document in, one localised line per request out.
 //!
 //! [`run`] is the call that the program makes: it reads the document from a source and appends the
-//! lines to an output. Its answer, a [`Status`], is the program's exit status too, and all but `Done`
-//! are told on a second output in one line.
+//! lines to an output. Its answer, a [`Status`], is the program's exit status too, and all but
+//! `Done` are told on a second output in one line.
 //!
 //! ```
 //! let mut source = SliceSource::new(document);

@@ -9,7 +9,8 @@ ghost use Rattle.localise_run.specs.Causes.{status_of_reading};
 ghost use Rattle.localise_status.specs.Classes.{ComesAtEnd, IsFailure, class_of};
 ghost use Rattle.localise_run.specs.Commands.{AreNoCommand, IsCommand};
 ghost use Rattle.localise_status.specs.FaultLines.{IsReported, fault_line};
-ghost use Rattle.localise_run.specs.Run.{AreRead, Appended, Gives, IsFlushed, Runs, RunsAndFlushes, written};
+ghost use Rattle.localise_run.specs.Run.{AreRead, Appended, Gives, IsFlushed, Runs, RunsAndFlushes};
+ghost use Rattle.localise_run.specs.Run.{written};
 ghost use Rattle.localise_run.specs.Tables.{HasTables};
 ghost use Rattle.reading.specs.Reading.{IsReadToEnd, most_bytes};
 ghost use Rattle.writeable_core.specs.Sink.{Rose};
@@ -29,8 +30,8 @@ use wanted_locale::Tables;
 use writeable_core::{Sink, Source};
 use writeable_sinks::FlushSink;
 
-/// Runs the command that the words are over a document that the source gives, appends its lines to the
-/// output, and tells of each answer but `Done` on the second output.
+/// Runs the command that the words are over a document that the source gives, appends its lines to
+/// the output, and tells of each answer but `Done` on the second output.
 ///
 /// `words` leaves out the program's name.
 pub fn run<S: Source, O: Sink, E: Sink>(
@@ -80,8 +81,8 @@ pub fn run<S: Source, O: Sink, E: Sink>(
     status
 }
 
-/// Runs over an output that may hold back what it takes, and flushes it at the end. Where that fails
-/// the status tells of it, whatever the run's answer was.
+/// Runs over an output that may hold back what it takes, and flushes it at the end. Where that
+/// fails the status tells of it, whatever the run's answer was.
 pub fn run_and_flush<S: Source, O: FlushSink, E: Sink>(
     alloc: Global,
     words: &[String],

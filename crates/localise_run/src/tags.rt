@@ -1,6 +1,7 @@
 //! The locale of each request's tag.
 
-ghost use Rattle.std.specs.Prelude.{◌≡◌, ◌≢◌, ◌<◌, List, Some, IfErr, IfOk, IfSome, length, slice_get, vec_len};
+ghost use Rattle.std.specs.Prelude.{◌≡◌, ◌≢◌, ◌<◌, List, Some, IfErr, IfOk, IfSome, length};
+ghost use Rattle.std.specs.Prelude.{slice_get, vec_len};
 ghost use Rattle.localise_texts.specs.declared.request.Request.{Request};
 ghost use Rattle.wanted_locale.specs.Wanted.{IsWantedOf};
 ghost use Rattle.wanted_locale.specs.declared.tables.Tables.{Tables};

@@ -1,5 +1,6 @@
 -- The characters of words in ASCII, which are their bytes, and what is said with them.
-use Rattle.std.proofs.Common.{◌≡◌, ℕ, zero, suc, List, [], ◌∷◌, ◌++◌, true, codes, sym, refl, ap, ap₂, ◌∙◌, arith}
+use Rattle.std.proofs.Common.{◌≡◌, ℕ, zero, suc, List, [], ◌∷◌, ◌++◌, true, codes, sym, refl, ap}
+use Rattle.std.proofs.Common.{ap₂, ◌∙◌, arith}
 use Rattle.std.proofs.lemmas.Bool.{and_parts, ltb-true}
 use Rattle.std.proofs.lemmas.Str.{chars-IsAscii}
 use Rattle.std.specs.List.{list_all}
@@ -27,13 +28,15 @@ use Rattle.lazy_dfa.specs.declared.error.ConditionError.{ConditionError}
 use Rattle.lazy_dfa.specs.declared.error.ConditionError.TheVariants as conditions
 use Rattle.localise.specs.declared.error.BundleCause.{BundleCause}
 use Rattle.localise.specs.declared.error.BundleCause.TheVariants as bundle
-use Rattle.localise_document.specs.Names.{fallback_names, field_name, name_at, registry_names, section_name}
+use Rattle.localise_document.specs.Names.{fallback_names, field_name, name_at, registry_names}
+use Rattle.localise_document.specs.Names.{section_name}
 use Rattle.localise_document.specs.declared.place.Field.{Field}
 use Rattle.localise_document.specs.declared.place.Field.TheVariants as fields
 use Rattle.localise_document.specs.declared.place.Section.{Section}
 use Rattle.localise_document.specs.declared.place.Section.TheVariants as sections
 use Rattle.localise_status.specs.Ascii.{in_ascii}
-use Rattle.localise_status.specs.FaultLines.{bundle_text, fallback_text, numbered_text, registry_text, request_text, row_text}
+use Rattle.localise_status.specs.FaultLines.{bundle_text, fallback_text, numbered_text}
+use Rattle.localise_status.specs.FaultLines.{registry_text, request_text, row_text}
 use Rattle.localise_status.specs.declared.status.RequestCause.{RequestCause}
 use Rattle.localise_status.specs.declared.status.RequestCause.TheVariants as request
 use Rattle.unic_langid_impl.specs.Words as identifiers
@@ -158,7 +161,8 @@ section_ascii sections.Root = refl
 section_ascii sections.Requests = refl
 
 -- the name of a table, where all have names in ASCII
-name_ascii : (names : List (List ℕ)) (n : ℕ) → list_all in_ascii names ≡ true → in_ascii (name_at names n) ≡ true
+name_ascii : (names : List (List ℕ)) (n : ℕ) → list_all in_ascii names ≡ true
+    → in_ascii (name_at names n) ≡ true
 name_ascii [] n all = refl
 name_ascii (name ∷ names) zero all = (and_parts _ _ all).0
 name_ascii (name ∷ names) (suc n) all = name_ascii names n (and_parts _ _ all).1
@@ -195,7 +199,8 @@ pub bundle_tag : (i : ℕ) (b : BundleCause) (e : TagCause) (words : List ℕ) �
     → numbered_text (chars (codes "bundle")) i (chars (codes "tag: ") ++ chars words)
     ≡ numbered_text (codes "bundle") i (bundle_text b)
 bundle_tag i b e words is same =
-    numbered i (codes "bundle") (codes "tag: ") (wanted.words_of e) words refl refl (tag_ascii e) same
+    numbered i (codes "bundle") (codes "tag: ") (wanted.words_of e) words refl refl
+    (tag_ascii e) same
     ∙ ap (λ x. numbered_text (codes "bundle") i (bundle_text x)) (sym is)
 
 -- a catalog that was refused
@@ -204,7 +209,8 @@ pub bundle_catalog : (i : ℕ) (b : BundleCause) (e : Error) (words : List ℕ) 
     → numbered_text (chars (codes "bundle")) i (chars (codes "catalog: ") ++ chars words)
     ≡ numbered_text (codes "bundle") i (bundle_text b)
 bundle_catalog i b e words is same =
-    numbered i (codes "bundle") (codes "catalog: ") (catalogs.words_of e) words refl refl (catalog_ascii e) same
+    numbered i (codes "bundle") (codes "catalog: ") (catalogs.words_of e) words refl refl
+    (catalog_ascii e) same
     ∙ ap (λ x. numbered_text (codes "bundle") i (bundle_text x)) (sym is)
 
 -- a list that was refused
@@ -213,7 +219,8 @@ pub bundle_list : (i : ℕ) (b : BundleCause) (e : DataError) (words : List ℕ)
     → numbered_text (chars (codes "bundle")) i (chars (codes "list: ") ++ chars words)
     ≡ numbered_text (codes "bundle") i (bundle_text b)
 bundle_list i b e words is same =
-    numbered i (codes "bundle") (codes "list: ") (lists.words_of e) words refl refl (list_ascii e) same
+    numbered i (codes "bundle") (codes "list: ") (lists.words_of e) words refl refl
+    (list_ascii e) same
     ∙ ap (λ x. numbered_text (codes "bundle") i (bundle_text x)) (sym is)
 
 -- a tag of a request that asks for no locale
@@ -222,7 +229,8 @@ pub request_tag : (i : ℕ) (r : RequestCause) (e : TagCause) (words : List ℕ)
     → numbered_text (chars (codes "request")) i (chars (codes "tag: ") ++ chars words)
     ≡ numbered_text (codes "request") i (request_text r)
 request_tag i r e words is same =
-    numbered i (codes "request") (codes "tag: ") (wanted.words_of e) words refl refl (tag_ascii e) same
+    numbered i (codes "request") (codes "tag: ") (wanted.words_of e) words refl refl
+    (tag_ascii e) same
     ∙ ap (λ x. numbered_text (codes "request") i (request_text x)) (sym is)
 
 -- a walk that loops
@@ -230,11 +238,13 @@ pub request_loops : (i : ℕ) (r : RequestCause) → r ≡ request.ChainLoops
     → numbered_text (chars (codes "request")) i (chars (codes "") ++ chars (codes "fallback loops"))
     ≡ numbered_text (codes "request") i (request_text r)
 request_loops i r is =
-    numbered i (codes "request") (codes "") (codes "fallback loops") (codes "fallback loops") refl refl refl refl
+    numbered i (codes "request") (codes "") (codes "fallback loops")
+    (codes "fallback loops") refl refl refl refl
     ∙ ap (λ x. numbered_text (codes "request") i (request_text x)) (sym is)
 
 -- a row of a table, and the words of its error
-pub registry_row : (table row : ℕ) (e k : RegistryError) (words : List ℕ) → e ≡ k → words ≡ registry.words_of e
+pub registry_row : (table row : ℕ) (e k : RegistryError) (words : List ℕ) → e ≡ k
+    → words ≡ registry.words_of e
     → row_text (field_name (fields.RegistryTable table)) row (registry.words_of k) ≡ registry_text k
     → row_text (field_name (fields.RegistryTable table)) row (chars words) ≡ registry_text e
 registry_row table row e k words is same text =
@@ -243,7 +253,8 @@ registry_row table row e k words is same text =
     ∙ text ∙ ap registry_text (sym is)
 
 -- a row of a table of fallback
-pub fallback_row : (table row : ℕ) (e k : TableError) (words : List ℕ) → e ≡ k → words ≡ fallback.words_of e
+pub fallback_row : (table row : ℕ) (e k : TableError) (words : List ℕ) → e ≡ k
+    → words ≡ fallback.words_of e
     → row_text (field_name (fields.FallbackTable table)) row (fallback.words_of k) ≡ fallback_text k
     → row_text (field_name (fields.FallbackTable table)) row (chars words) ≡ fallback_text e
 fallback_row table row e k words is same text =
@@ -252,13 +263,17 @@ fallback_row table row e k words is same text =
     ∙ text ∙ ap fallback_text (sym is)
 
 -- want of memory
-pub registry_memory : (e : RegistryError) (words : List ℕ) → e ≡ tags.NoMemory → words ≡ registry.words_of e
+pub registry_memory : (e : RegistryError) (words : List ℕ) → e ≡ tags.NoMemory
+    → words ≡ registry.words_of e
     → chars words ≡ registry_text e
 registry_memory e words is same =
-    said (registry.words_of e) words same (registry_ascii e) ∙ ap registry.words_of is ∙ ap registry_text (sym is)
+    said (registry.words_of e) words same (registry_ascii e) ∙ ap registry.words_of is
+    ∙ ap registry_text (sym is)
 
 -- want of memory at a table of fallback
-pub fallback_memory : (e : TableError) (words : List ℕ) → e ≡ locales.NoMemory → words ≡ fallback.words_of e
+pub fallback_memory : (e : TableError) (words : List ℕ) → e ≡ locales.NoMemory
+    → words ≡ fallback.words_of e
     → chars words ≡ fallback_text e
 fallback_memory e words is same =
-    said (fallback.words_of e) words same (fallback_ascii e) ∙ ap fallback.words_of is ∙ ap fallback_text (sym is)
+    said (fallback.words_of e) words same (fallback_ascii e) ∙ ap fallback.words_of is
+    ∙ ap fallback_text (sym is)

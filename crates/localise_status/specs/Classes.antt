@@ -1,7 +1,10 @@
 -- The classes of statuses, and the exit status of each.
 use Rattle.std.specs.Prelude.{ℕ}
 use Rattle.localise_status.specs.declared.status.Status.{Status}
-use Rattle.localise_status.specs.declared.status.Status.TheVariants.{Done, BadWords, NotJson, Shape, Table, Bundle, DuplicateLocale, Root, Request, ReadFault, WriteFault, NoMemory, TooLong}
+use Rattle.localise_status.specs.declared.status.Status.TheVariants.{Done, BadWords, NotJson, Shape}
+use Rattle.localise_status.specs.declared.status.Status.TheVariants.{Table, Bundle, DuplicateLocale}
+use Rattle.localise_status.specs.declared.status.Status.TheVariants.{Root, Request, ReadFault}
+use Rattle.localise_status.specs.declared.status.Status.TheVariants.{WriteFault, NoMemory, TooLong}
 
 -- What a status is about: the words are no command; the source failed; the input has this answer,
 -- before any line or behind some; the output failed; or memory ran out.
@@ -58,7 +61,8 @@ FailsIn Memory = Unit {0}
 abbrev pub IsFailure : Status → Type 0
 IsFailure status = FailsIn (class_of status)
 
--- an answer that comes once the source was read to its end: all but too long, and those of words, reading and memory
+-- an answer that comes once the source was read to its end: all but too long, and those of words,
+-- reading and memory
 abbrev pub ComesAtEnd : Status → Type 0
 ComesAtEnd Done = Unit {0}
 ComesAtEnd BadWords = ⊥

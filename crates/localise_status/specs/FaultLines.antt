@@ -17,7 +17,10 @@ use Rattle.localise_document.specs.declared.place.ShapePlace.{ShapePlace}
 use Rattle.localise_status.specs.declared.status.RequestCause.{RequestCause}
 use Rattle.localise_status.specs.declared.status.RequestCause.TheVariants as request
 use Rattle.localise_status.specs.declared.status.Status.{Status}
-use Rattle.localise_status.specs.declared.status.Status.TheVariants.{Done, BadWords, NotJson, Shape, Table, Bundle, DuplicateLocale, Root, Request, ReadFault, WriteFault, NoMemory, TooLong}
+use Rattle.localise_status.specs.declared.status.Status.TheVariants.{Done, BadWords, NotJson, Shape}
+use Rattle.localise_status.specs.declared.status.Status.TheVariants.{Table, Bundle, DuplicateLocale}
+use Rattle.localise_status.specs.declared.status.Status.TheVariants.{Root, Request, ReadFault}
+use Rattle.localise_status.specs.declared.status.Status.TheVariants.{WriteFault, NoMemory, TooLong}
 use Rattle.localise_status.specs.declared.status.TableCause.{TableCause}
 use Rattle.localise_status.specs.declared.status.TableCause.TheVariants as table
 use Rattle.wanted_locale.specs.Words as wanted
@@ -33,20 +36,27 @@ place_text place = placed_text (section_name place.section) place.index (field_n
 
 -- a row of a table, and what is wrong with it
 abbrev pub row_text : List ℕ → ℕ → List ℕ → List ℕ
-row_text name row words = codes "table " ++ (name ++ (codes " row " ++ (decimal row ++ (codes ": " ++ words))))
+row_text name row words =
+    codes "table " ++ (name ++ (codes " row " ++ (decimal row ++ (codes ": " ++ words))))
 
 -- the fault of a table of the registry
 abbrev pub registry_text : RegistryError → List ℕ
-registry_text (tags.DuplicateKey table row) = row_text (field_name (RegistryTable table)) row (codes "duplicate key")
-registry_text (tags.BadKey table row) = row_text (field_name (RegistryTable table)) row (codes "bad key")
-registry_text (tags.BadValue table row) = row_text (field_name (RegistryTable table)) row (codes "bad value")
+registry_text (tags.DuplicateKey table row) =
+    row_text (field_name (RegistryTable table)) row (codes "duplicate key")
+registry_text (tags.BadKey table row) =
+    row_text (field_name (RegistryTable table)) row (codes "bad key")
+registry_text (tags.BadValue table row) =
+    row_text (field_name (RegistryTable table)) row (codes "bad value")
 registry_text tags.NoMemory = registry.words_of tags.NoMemory
 
 -- the fault of a table of fallback
 abbrev pub fallback_text : TableError → List ℕ
-fallback_text (locales.DuplicateKey table row) = row_text (field_name (FallbackTable table)) row (codes "duplicate key")
-fallback_text (locales.BadKey table row) = row_text (field_name (FallbackTable table)) row (codes "bad key")
-fallback_text (locales.BadValue table row) = row_text (field_name (FallbackTable table)) row (codes "bad value")
+fallback_text (locales.DuplicateKey table row) =
+    row_text (field_name (FallbackTable table)) row (codes "duplicate key")
+fallback_text (locales.BadKey table row) =
+    row_text (field_name (FallbackTable table)) row (codes "bad key")
+fallback_text (locales.BadValue table row) =
+    row_text (field_name (FallbackTable table)) row (codes "bad value")
 fallback_text locales.NoMemory = fallback.words_of locales.NoMemory
 
 -- the fault of a table
@@ -77,7 +87,8 @@ fault_text NotJson = codes "not JSON"
 fault_text (Shape place) = codes "wrong shape: " ++ place_text place
 fault_text (Table cause) = table_text cause
 fault_text (Bundle i cause) = numbered_text (codes "bundle") i (bundle_text cause)
-fault_text (DuplicateLocale i) = numbered_text (codes "bundle") i (codes "locale of an earlier bundle")
+fault_text (DuplicateLocale i) =
+    numbered_text (codes "bundle") i (codes "locale of an earlier bundle")
 fault_text (Root fault) = codes "root patterns: " ++ lists.words_of fault
 fault_text (Request i cause) = numbered_text (codes "request") i (request_text cause)
 fault_text ReadFault = codes "read fault"
@@ -89,8 +100,10 @@ fault_text TooLong = codes "input too long"
 abbrev pub fault_line : Status → List ℕ
 fault_line answer = codes "localise: " ++ (fault_text answer ++ 10 ∷ [])
 
--- The line was taken, or a front of it, and that only where the sink's count rose or it takes memory.
-pub data IsReported {E : Type 0} (took : E → List ℕ → E → Type 0) (faults : E → ℕ) (takes_memory : E → Bool) (old : E) (line : List ℕ) (new : E) : Type 0 where
+-- The line was taken, or a front of it, and that only where the sink's count rose or it takes
+-- memory.
+pub data IsReported {E : Type 0} (took : E → List ℕ → E → Type 0) (faults : E → ℕ)
+    (takes_memory : E → Bool) (old : E) (line : List ℕ) (new : E) : Type 0 where
   whole : took old line new → IsReported took faults takes_memory old line new
   front : TookPrefix took old line new → Rose (faults old) (faults new) ⊎ (takes_memory old ≡ true)
       → IsReported took faults takes_memory old line new

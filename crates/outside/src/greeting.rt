@@ -3,7 +3,8 @@ ghost use Rattle.std.specs.Prelude.{◌≡◌, ℕ, List, [], ◌∷◌, ◌++�
 ghost use Rattle.writeable_core.specs.Hint.{hint_sum, text_hint, byte_length};
 ghost use Rattle.writeable_core.specs.HintLaws.{Hinted-append, Hinted-exact};
 ghost use Rattle.writeable_core.specs.Marks.{plain};
-ghost use Rattle.writeable_core.specs.MarksLaws.{characters-plain, characters-both, Nests-append, Nests-plain};
+ghost use Rattle.writeable_core.specs.MarksLaws.{characters-plain, characters-both, Nests-append};
+ghost use Rattle.writeable_core.specs.MarksLaws.{Nests-plain};
 
 use std::alloc::Global;
 use std::process::Abort;
@@ -28,11 +29,13 @@ impl<N: TryWriteable> TryWriteable for Greeting<N> {
 
     ghost text = { λ s. (chars (codes "Hello, ") ++ N.text s.0) ++ chars (codes "!") };
 
-    ghost marked = { λ s. (plain (chars (codes "Hello, ")) ++ N.marked s.0) ++ plain (chars (codes "!")) };
+    ghost marked = { λ s. (plain (chars (codes "Hello, ")) ++ N.marked s.0)
+        ++ plain (chars (codes "!")) };
 
     ghost error = { λ s. option_map (λ _. NoName) (N.error s.0) };
 
-    ghost hint = { λ s. hint_sum (hint_sum (text_hint (chars (codes "Hello, "))) (N.hint s.0)) (text_hint (chars (codes "!"))) };
+    ghost hint = { λ s. hint_sum (hint_sum (text_hint (chars (codes "Hello, "))) (N.hint s.0))
+        (text_hint (chars (codes "!"))) };
 
     ghost lends = { λ _. false };
 
@@ -67,17 +70,25 @@ impl<N: TryWriteable> TryWriteable for Greeting<N> {
         None
     }
 
-    ghost marked_text = { λ s. characters-both (plain (chars (codes "Hello, ")) ++ N.marked s.0) (plain (chars (codes "!")))
-        (characters-both (plain (chars (codes "Hello, "))) (N.marked s.0) (characters-plain (chars (codes "Hello, "))) (N.marked_text s.0))
+    ghost marked_text = { λ s.
+        characters-both (plain (chars (codes "Hello, ")) ++ N.marked s.0)
+        (plain (chars (codes "!")))
+        (characters-both (plain (chars (codes "Hello, "))) (N.marked s.0)
+        (characters-plain (chars (codes "Hello, "))) (N.marked_text s.0))
         (characters-plain (chars (codes "!"))) };
 
-    ghost marked_nests = { λ s. Nests-append (plain (chars (codes "Hello, ")) ++ N.marked s.0) (plain (chars (codes "!")))
-        (Nests-append (plain (chars (codes "Hello, "))) (N.marked s.0) (Nests-plain (chars (codes "Hello, "))) (N.marked_nests s.0))
+    ghost marked_nests = { λ s.
+        Nests-append (plain (chars (codes "Hello, ")) ++ N.marked s.0) (plain (chars (codes "!")))
+        (Nests-append (plain (chars (codes "Hello, "))) (N.marked s.0)
+        (Nests-plain (chars (codes "Hello, "))) (N.marked_nests s.0))
         (Nests-plain (chars (codes "!"))) };
 
-    ghost text_hinted = { λ s. Hinted-append (hint_sum (text_hint (chars (codes "Hello, "))) (N.hint s.0)) (text_hint (chars (codes "!")))
+    ghost text_hinted = { λ s.
+        Hinted-append (hint_sum (text_hint (chars (codes "Hello, "))) (N.hint s.0))
+        (text_hint (chars (codes "!")))
         (chars (codes "Hello, ") ++ N.text s.0) (chars (codes "!"))
-        (Hinted-append (text_hint (chars (codes "Hello, "))) (N.hint s.0) (chars (codes "Hello, ")) (N.text s.0)
+        (Hinted-append (text_hint (chars (codes "Hello, "))) (N.hint s.0)
+        (chars (codes "Hello, ")) (N.text s.0)
         (Hinted-exact (byte_length (chars (codes "Hello, ")))) (N.text_hinted s.0))
         (Hinted-exact (byte_length (chars (codes "!")))) };
 }

@@ -1,7 +1,7 @@
 //! Sources read to their end, within a limit.
 //!
-//! [`read_all`] takes all bytes that a source has left, and no more than [`MOST_BYTES`]. It stops at
-//! the first read that fails, so what it gives is the whole of the source's bytes.
+//! [`read_all`] takes all bytes that a source has left, and no more than [`MOST_BYTES`]. It stops
+//! at the first read that fails, so what it gives is the whole of the source's bytes.
 //!
 //! ```
 //! let mut source = SliceSource::new(b"Salut");

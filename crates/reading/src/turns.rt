@@ -1,4 +1,5 @@
-ghost use Rattle.std.specs.Prelude.{◌≡◌, ◌+◌, ◌<◌, ◌≤◌, ◌^◌, length, vec_len, IfOk, IfErr, OnOk, IfSome, IsErrOf};
+ghost use Rattle.std.specs.Prelude.{◌≡◌, ◌+◌, ◌<◌, ◌≤◌, ◌^◌, length, vec_len, IfOk, IfErr, OnOk};
+ghost use Rattle.std.specs.Prelude.{IfSome, IsErrOf};
 ghost use Rattle.std.specs.Io.KnownBytes.{Consumes};
 ghost use Rattle.reading.specs.Reading.{most_bytes, IsReadToEnd, IsReadError};
 
@@ -14,8 +15,8 @@ const PIECE: usize = 65_536;
 
 /// All bytes that a source has left, if they are no more than [`MOST_BYTES`].
 ///
-/// A read that fails ends it: neither bytes nor [`ReadError::TooLong`] come after one. What was read
-/// before an error is lost.
+/// A read that fails ends it: neither bytes nor [`ReadError::TooLong`] come after one. What was
+/// read before an error is lost.
 pub fn read_all<S: Source>(alloc: Global, source: &mut S) -> Result<Vec<u8>, ReadError>
     ensures all { IfOk result (λ bytes. IfSome (S.left source.old) (λ told. bytes.items ≡ told)) }
     ensures within { IfOk result (λ bytes. length bytes.items ≤ most_bytes) }

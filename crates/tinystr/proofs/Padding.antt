@@ -1,5 +1,7 @@
 -- A text that is filled up with NUL is found again, and stays so where each byte is changed.
-use Rattle.std.proofs.Common.{◌≡◌, true, false, nat_eq, nat_lt, get_or, set, ℕ, zero, suc, ◌-◌, ◌<◌, ◌≤◌, not, List, [], ◌∷◌, ◌++◌, Option, map, length, drop, take, replicate, refl, sym, ap, ◌∙◌, arith}
+use Rattle.std.proofs.Common.{◌≡◌, true, false, nat_eq, nat_lt, get_or, set, ℕ, zero, suc, ◌-◌, ◌<◌}
+use Rattle.std.proofs.Common.{◌≤◌, not, List, [], ◌∷◌, ◌++◌, Option, map, length, drop, take}
+use Rattle.std.proofs.Common.{replicate, refl, sym, ap, ◌∙◌, arith}
 use Rattle.std.specs.Prelude.{◌==◌, position, unwrap_or}
 use Rattle.std.specs.Char.{to_ascii_lowercase, to_ascii_uppercase}
 use Rattle.std.specs.List.{All, AllWithin, prefix_len}
@@ -8,7 +10,8 @@ use Rattle.std.proofs.lemmas.Bool.Decides.{nat_tests}
 use Rattle.std.proofs.lemmas.List.{drop-replicate, get_or_default, length-map, map-append}
 use Rattle.std.proofs.lemmas.List.Folds.{length-prefix_len}
 use Rattle.std.proofs.lemmas.List.Sums.{prefix_len-le-length}
-use Rattle.std.proofs.lemmas.List.Elements.{All-nil, All-cons, All-head, All-tail, All-weaker, All-map, All-append, All-replicate}
+use Rattle.std.proofs.lemmas.List.Elements.{All-nil, All-cons, All-head, All-tail, All-weaker}
+use Rattle.std.proofs.lemmas.List.Elements.{All-map, All-append, All-replicate}
 use Rattle.std.proofs.lemmas.Str.Ascii.{IsAscii-from_all, All-from_ascii}
 use Rattle.tinystr.specs.Text.{HoldsText, IsTextByte, padded, titlecase, unpadded}
 
@@ -51,7 +54,8 @@ padded-text n text h =
     (All-replicate (λ b. b < 128) (n - length text) 0 (omega arith)))
 
 -- bytes that are a text, filled up
-module _ (n : ℕ) (bytes text : List ℕ) (filled : bytes ≡ padded n text) (h : All IsTextByte text) where
+module _ (n : ℕ) (bytes text : List ℕ) (filled : bytes ≡ padded n text)
+    (h : All IsTextByte text) where
   -- it is found again
   pub unpadded_is : unpadded bytes ≡ text
   unpadded_is = ap unpadded filled ∙ unpadded-append (n - length text) text h
@@ -59,7 +63,10 @@ module _ (n : ℕ) (bytes text : List ℕ) (filled : bytes ≡ padded n text) (h
   -- and they hold it
   pub holds_text : HoldsText n bytes
   holds_text =
-      record { filled = filled ∙ ap (padded n) (sym unpadded_is); ascii = rw filled (padded-text n text h) }
+      record {
+        filled = filled ∙ ap (padded n) (sym unpadded_is);
+        ascii = rw filled (padded-text n text h);
+      }
 
 -- what such bytes hold
 module _ (n : ℕ) (bytes : List ℕ) (held : HoldsText n bytes) where
@@ -74,7 +81,8 @@ module _ (bytes : List ℕ) where
 
   -- which is at most that of the bytes
   pub length-unpadded-le : length (unpadded bytes) ≤ length bytes
-  length-unpadded-le = omega (arith, length-unpadded, prefix_len-le-length (λ b. not (b == 0)) bytes)
+  length-unpadded-le =
+      omega (arith, length-unpadded, prefix_len-le-length (λ b. not (b == 0)) bytes)
 
   -- so many bytes are the text
   pub take-unpadded : (n : ℕ) → n ≡ length (unpadded bytes) → take n bytes ≡ unpadded bytes
@@ -89,7 +97,8 @@ module _ (bytes : List ℕ) where
       let le = prefix_len-le-length (λ b. not (b == 0)) bytes in grind (arith, nat_tests)
 
 -- `f` changes each byte, NUL not and no other byte into NUL
-module _ (f : ℕ → ℕ) (stays : f 0 ≡ 0) (keeps : (byte : ℕ) → IsTextByte byte → IsTextByte (f byte)) where
+module _ (f : ℕ → ℕ) (stays : f 0 ≡ 0)
+    (keeps : (byte : ℕ) → IsTextByte byte → IsTextByte (f byte)) where
   -- NULs stay NULs
   map-replicate : (n : ℕ) → map f (replicate n 0) ≡ replicate n 0
   map-replicate zero = refl
@@ -181,7 +190,8 @@ raised-padded n (first ∷ rest) = refl
 raised-text : (text : List ℕ) → All IsTextByte text → All IsTextByte (raised text)
 raised-text [] h = h
 raised-text (first ∷ rest) h =
-    All-cons IsTextByte (to_ascii_uppercase first) rest (upper_keeps first (All-head IsTextByte first rest h))
+    All-cons IsTextByte (to_ascii_uppercase first) rest
+    (upper_keeps first (All-head IsTextByte first rest h))
     (All-tail IsTextByte first rest h)
 
 -- a text in lower case, and then its first character in upper case

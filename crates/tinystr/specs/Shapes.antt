@@ -1,5 +1,6 @@
--- The shapes of subtags in canonical case: UTS 35, Unicode locale identifiers, and RFC 5646, section 2.1; on case, RFC 5646,
--- section 2.1.1. A text in any case has a shape where it has it in canonical case.
+-- The shapes of subtags in canonical case: UTS 35, Unicode locale identifiers, and RFC 5646,
+-- section 2.1; on case, RFC 5646, section 2.1.1. A text in any case has a shape where it has it in
+-- canonical case.
 use Rattle.std.specs.Prelude.{ℕ, Bool, ◌&&◌, ◌||◌, ◌==◌, List, length, drop, slice_index, IsTrue}
 use Rattle.std.specs.Char.{is_ascii_digit, is_ascii_lowercase, is_ascii_uppercase}
 use Rattle.std.specs.Int.{is_in_range}
@@ -8,7 +9,8 @@ use Rattle.std.specs.List.{list_all}
 -- unicode_script_subtag: four letters, of which the first is a capital
 abbrev pub is_script : List ℕ → Bool
 is_script text =
-    length text == 4 && (is_ascii_uppercase (slice_index text 0) && list_all is_ascii_lowercase (drop 1 text))
+    length text == 4
+    && (is_ascii_uppercase (slice_index text 0) && list_all is_ascii_lowercase (drop 1 text))
 
 abbrev pub IsScript : List ℕ → Type 0
 IsScript text = IsTrue (is_script text)

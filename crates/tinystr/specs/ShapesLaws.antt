@@ -1,7 +1,9 @@
--- What the shapes of subtags say of a text's bytes: that it fits the type that holds it, in canonical case and in any.
+-- What the shapes of subtags say of a text's bytes: that it fits the type that holds it, in
+-- canonical case and in any.
 use Rattle.std.proofs.Common.{◌≡◌, ◌<◌, ℕ, Bool, true, List, [], ◌∷◌, length, map, ⊎_elim, arith}
 use Rattle.std.specs.Prelude.{◌==◌, ◌&&◌}
-use Rattle.std.specs.Char.{is_ascii_digit, is_ascii_lowercase, is_ascii_uppercase, to_ascii_lowercase, to_ascii_uppercase}
+use Rattle.std.specs.Char.{is_ascii_digit, is_ascii_lowercase, is_ascii_uppercase}
+use Rattle.std.specs.Char.{to_ascii_lowercase, to_ascii_uppercase}
 use Rattle.std.specs.List.{All, list_all}
 use Rattle.std.specs.Str.{IsAscii}
 use Rattle.std.proofs.lemmas.Bool.{or_cases}
@@ -34,7 +36,8 @@ digit-text : (c : ℕ) → is_ascii_digit c ≡ true → IsTextByte c
 digit-text c h = grind (arith, nat_tests)
 
 -- small letters, and small letters or digits
-pub lowercase-bytes : (text : List ℕ) → list_all is_ascii_lowercase text ≡ true → All IsTextByte text
+pub lowercase-bytes : (text : List ℕ) → list_all is_ascii_lowercase text ≡ true
+    → All IsTextByte text
 lowercase-bytes text h = text_bytes is_ascii_lowercase lower-text text h
 
 pub small-bytes : (text : List ℕ) → list_all is_small text ≡ true → All IsTextByte text
@@ -56,11 +59,18 @@ tiny_region text h =
     ⊎_elim
     (λ (two : (length text == 2 && list_all is_ascii_uppercase text) ≡ true).
     let all : list_all is_ascii_uppercase text ≡ true = grind (arith, nat_tests) in
-    record { fits = grind (arith, nat_tests); bytes = text_bytes is_ascii_uppercase upper-text text all })
+    record {
+      fits = grind (arith, nat_tests);
+      bytes = text_bytes is_ascii_uppercase upper-text text all;
+    })
     (λ (three : (length text == 3 && list_all is_ascii_digit text) ≡ true).
     let all : list_all is_ascii_digit text ≡ true = grind (arith, nat_tests) in
-    record { fits = grind (arith, nat_tests); bytes = text_bytes is_ascii_digit digit-text text all })
-    (or_cases (length text == 2 && list_all is_ascii_uppercase text) (length text == 3 && list_all is_ascii_digit text) h)
+    record {
+      fits = grind (arith, nat_tests);
+      bytes = text_bytes is_ascii_digit digit-text text all;
+    })
+    (or_cases (length text == 2 && list_all is_ascii_uppercase text)
+    (length text == 3 && list_all is_ascii_digit text) h)
 
 -- a variant is a text that a `TinyStr` holds
 pub tiny_variant : (text : List ℕ) → IsVariant text → IsTinyText 8 text
@@ -88,10 +98,12 @@ module _ (case : ℕ → ℕ) (from : (c : ℕ) → IsTextByte (case c) → IsTe
   tiny_from n text h =
       record { fits = omega (arith, h.fits, length-map text case); bytes = bytes_from text h.bytes }
 
-pub tiny_lowercase : (n : ℕ) (text : List ℕ) → IsTinyText n (map to_ascii_lowercase text) → IsTinyText n text
+pub tiny_lowercase : (n : ℕ) (text : List ℕ) → IsTinyText n (map to_ascii_lowercase text)
+    → IsTinyText n text
 tiny_lowercase n text h = tiny_from to_ascii_lowercase lower-from n text h
 
-pub tiny_uppercase : (n : ℕ) (text : List ℕ) → IsTinyText n (map to_ascii_uppercase text) → IsTinyText n text
+pub tiny_uppercase : (n : ℕ) (text : List ℕ) → IsTinyText n (map to_ascii_uppercase text)
+    → IsTinyText n text
 tiny_uppercase n text h = tiny_from to_ascii_uppercase upper-from n text h
 
 pub tiny_titlecase : (n : ℕ) (text : List ℕ) → IsTinyText n (titlecase text) → IsTinyText n text
@@ -100,7 +112,8 @@ tiny_titlecase n (first ∷ rest) h = record {
   fits = omega (arith, h.fits, length-map rest to_ascii_lowercase);
   bytes = All-cons IsTextByte first rest
       (upper-from first (All-head IsTextByte _ (map to_ascii_lowercase rest) h.bytes))
-      (bytes_from to_ascii_lowercase lower-from rest (All-tail IsTextByte (to_ascii_uppercase first) _ h.bytes));
+      (bytes_from to_ascii_lowercase lower-from rest
+      (All-tail IsTextByte (to_ascii_uppercase first) _ h.bytes));
 }
 
 -- the text of a `TinyStr` is ASCII

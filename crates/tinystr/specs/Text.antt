@@ -1,5 +1,6 @@
 -- The texts that a `TinyStr` stands for, and how its bytes hold them.
-use Rattle.std.specs.Prelude.{◌≡◌, ℕ, List, [], ◌∷◌, ◌++◌, ◌-◌, ◌<◌, ◌≤◌, ◌==◌, length, map, replicate}
+use Rattle.std.specs.Prelude.{◌≡◌, ℕ, List, [], ◌∷◌, ◌++◌, ◌-◌, ◌<◌, ◌≤◌, ◌==◌, length, map}
+use Rattle.std.specs.Prelude.{replicate}
 use Rattle.std.specs.Char.{to_ascii_lowercase, to_ascii_uppercase}
 use Rattle.std.specs.List.{All, before_first}
 use Rattle.std.specs.Str.{IsAscii}

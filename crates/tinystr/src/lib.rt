@@ -1,7 +1,7 @@
 //! Small ASCII texts that lie in the value itself.
 //!
-//! A [`TinyStr<N>`](TinyStr) is a text of at most `N` bytes, as a subtag of a locale is: copied like
-//! a number, compared, ordered and hashed as its text.
+//! A [`TinyStr<N>`](TinyStr) is a text of at most `N` bytes, as a subtag of a locale is: copied
+//! like a number, compared, ordered and hashed as its text.
 //!
 //! ```
 //! let script = TinyStr::<4>::try_from_bytes(b"LATN")?;

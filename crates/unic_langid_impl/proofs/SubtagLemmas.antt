@@ -6,7 +6,8 @@ use Rattle.std.specs.Str.{chars}
 use Rattle.std.proofs.lemmas.Bool.Decides.{nat_tests}
 use Rattle.std.proofs.lemmas.Str.{chars-IsAscii}
 use Rattle.tinystr.specs.Shapes.{IsScript, IsRegion, IsVariant}
-use Rattle.tinystr.specs.ShapesLaws.{lowercase-bytes, tiny_lowercase, tiny_region, tiny_script, tiny_titlecase, tiny_uppercase, tiny_variant, tiny-IsAscii}
+use Rattle.tinystr.specs.ShapesLaws.{lowercase-bytes, tiny_lowercase, tiny_region, tiny_script}
+use Rattle.tinystr.specs.ShapesLaws.{tiny_titlecase, tiny_uppercase, tiny_variant, tiny-IsAscii}
 use Rattle.tinystr.specs.Text.{IsTinyText, titlecase}
 use Rattle.unic_langid_impl.specs.Subtags.{IsLanguage, lowercase, und, uppercase}
 

@@ -46,7 +46,8 @@ part (Some subtag) = subtag ∷ []
 abbrev pub subtags : Identifier → List (List ℕ)
 subtags i = language_text i.language ∷ (part i.script ++ (part i.region ++ i.variants))
 
--- the printed text: the language, `und` for none, then `-` and each of script, region and variants that is there
+-- the printed text: the language, `und` for none, then `-` and each of script, region and variants
+-- that is there
 abbrev pub print : Identifier → List ℕ
 print i = join_with_byte (byte "-") (subtags i)
 

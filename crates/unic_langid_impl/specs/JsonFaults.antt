@@ -2,14 +2,16 @@
 use Rattle.std.specs.Prelude.{◌≡◌, ◌≢◌, ℕ, List, Option, None, IsSomeAnd}
 use Rattle.unic_langid_impl.specs.Reading.{IsParserFault}
 use Rattle.unic_langid_impl.specs.declared.identifier.json.IdJsonError.{IdJsonError}
-use Rattle.unic_langid_impl.specs.declared.identifier.json.IdJsonError.TheVariants.{NoMemory, NotText, Parse}
+use Rattle.unic_langid_impl.specs.declared.identifier.json.IdJsonError.TheVariants.{NoMemory}
+use Rattle.unic_langid_impl.specs.declared.identifier.json.IdJsonError.TheVariants.{NotText, Parse}
 use Rattle.unic_langid_impl.specs.declared.parser.error.ParserError.{ParserError}
 use Rattle.unic_langid_impl.specs.declared.parser.error.ParserError.TheVariants as parser
 
 -- of the value's text, where it is a string
 abbrev pub IsJsonFault : Option (List ℕ) → IdJsonError → Type 0
 IsJsonFault text NotText = text ≡ None
-IsJsonFault text (Parse error) = IsSomeAnd text (λ bytes. (error ≢ parser.NoMemory) × IsParserFault bytes error)
+IsJsonFault text (Parse error) =
+    IsSomeAnd text (λ bytes. (error ≢ parser.NoMemory) × IsParserFault bytes error)
 IsJsonFault text NoMemory = Unit {0}
 
 -- the error of the parser as one of a JSON value: want of memory is its own

@@ -28,7 +28,8 @@ second_ties Greater s e = cc
 pub language_pairs_tie : (a b : Option (List ℕ) × List ℕ) → language_pair_cmp a b ≡ Equal → a ≡ b
 language_pairs_tie a b e =
     let language = options_tie a.0 b.0 (first_ties _ (text_cmp a.1 b.1) e) in
-    let other = texts_tie a.1 b.1 (second_ties (language_cmp a.0 b.0) _ e) in λ i. (language i, other i)
+    let other = texts_tie a.1 b.1 (second_ties (language_cmp a.0 b.0) _ e) in
+    λ i. (language i, other i)
 
 pub pairs_tie : (a b : List ℕ × List ℕ) → pair_cmp a b ≡ Equal → a ≡ b
 pairs_tie a b e =

@@ -16,6 +16,7 @@ IdHasShape = (bytes : List ℕ) (i : Identifier) → id_of bytes i → IsIdentif
 abbrev pub PrintedIsRead : Type 0
 PrintedIsRead = (bytes : List ℕ) (i : Identifier) → id_of bytes i → id_of (print i) i
 
--- the minimal form has the maximal form that it was sought for, and nothing of that form's language with fewer subtags has it
+-- the minimal form has the maximal form that it was sought for, and nothing of that form's language
+-- with fewer subtags has it
 abbrev pub MinimalIsLeast : Type 0
 MinimalIsLeast = (F : Tables) (t least : Triple) → minimal F t ≡ Some least → IsLeast F t least

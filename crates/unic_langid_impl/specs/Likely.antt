@@ -1,5 +1,7 @@
--- Likely subtags (UTS 35): the tables, and the maximal and minimal forms of a language, script and region.
-use Rattle.std.specs.Prelude.{ℕ, Bool, ◌&&◌, if◌then◌else◌, ◌≡◌, ◌≢◌, ◌+◌, ◌<◌, List, [], ◌∷◌, ◌++◌, Option, Some, None, is_some, find, option_and_then}
+-- Likely subtags (UTS 35): the tables, and the maximal and minimal forms of a language, script and
+-- region.
+use Rattle.std.specs.Prelude.{ℕ, Bool, ◌&&◌, if◌then◌else◌, ◌≡◌, ◌≢◌, ◌+◌, ◌<◌, List, [], ◌∷◌, ◌++◌}
+use Rattle.std.specs.Prelude.{Option, Some, None, is_some, find, option_and_then}
 use Rattle.std.specs.BTreeMap.{is_at}
 use Rattle.std.specs.Map.{lookup}
 use Rattle.std.specs.Option.{option_cmp, option_eq, option_map, option_or}
@@ -24,7 +26,8 @@ abbrev pub with_triple : Identifier → Triple → Identifier
 with_triple i t = record i { language = t.0; script = t.1; region = t.2 }
 
 abbrev pub triple_eq : Triple → Triple → Bool
-triple_eq t u = (option_eq same_text t.0 u.0 && option_eq same_text t.1 u.1) && option_eq same_text t.2 u.2
+triple_eq t u = (option_eq same_text t.0 u.0 && option_eq same_text t.1 u.1)
+    && option_eq same_text t.2 u.2
 
 -- A table from keys to triples, as its rows in the order of their keys, each key once.
 abbrev pub Table : Type 0 → Type 0
@@ -74,7 +77,8 @@ first_there (o ∷ os) = option_or o (first_there os)
 abbrev pub is_whole : Triple → Bool
 is_whole t = is_some t.0 && (is_some t.1 && is_some t.2)
 
--- with a language: the row of language and region; of language and script; of the language, script and region kept
+-- with a language: the row of language and region; of language and script; of the language, script
+-- and region kept
 abbrev pub with_language : LanguageTables → Triple → Option Triple
 with_language F t =
     first_there (
@@ -83,27 +87,36 @@ with_language F t =
     ∷ option_map (keeping t.1 t.2) (row language_cmp F.lang_only t.0)
     ∷ [])
 
--- without one: the row of script and region; of the script, the region kept; where no script is given, of the region
+-- without one: the row of script and region; of the script, the region kept; where no script is
+-- given, of the region
 abbrev pub without_language : ScriptTables → Triple → Option Triple
 without_language F t =
     first_there (
-    option_and_then (λ script. option_and_then (λ region. row pair_cmp F.script_region (script, region)) t.2) t.1
-    ∷ option_and_then (λ script. option_map (keeping None t.2) (row text_cmp F.script_only script)) t.1
-    ∷ (if is_some t.1 then None else option_and_then (λ region. row text_cmp F.region_only region) t.2)
+    option_and_then
+    (λ script. option_and_then (λ region. row pair_cmp F.script_region (script, region)) t.2)
+    t.1
+    ∷ option_and_then
+    (λ script. option_map (keeping None t.2) (row text_cmp F.script_only script)) t.1
+    ∷ (if is_some t.1 then None else option_and_then
+    (λ region. row text_cmp F.region_only region) t.2)
     ∷ [])
 
 -- the language alone, with the region, with the script; a trial whose part is missing isn't made
 abbrev pub trials : Triple → List Triple
 trials m =
     (m.0, None, None)
-    ∷ ((if is_some m.2 then ((m.0, None, m.2) ∷ []) else []) ++ (if is_some m.1 then ((m.0, m.1, None) ∷ []) else []))
+    ∷ ((if is_some m.2 then ((m.0, None, m.2) ∷ []) else [])
+    ++ (if is_some m.1 then ((m.0, m.1, None) ∷ []) else []))
 
 module _ (F : Tables) where
   -- none for a triple that has all three parts
   abbrev pub maximal : Triple → Option Triple
-  maximal t = if is_whole t then None else (if is_some t.0 then with_language F.languages t else without_language F.scripts t)
+  maximal t =
+      if is_whole t then None else
+      (if is_some t.0 then with_language F.languages t else without_language F.scripts t)
 
-  -- the form that a smaller one is sought for: the maximal one, or the triple itself where it has all three parts
+  -- the form that a smaller one is sought for: the maximal one, or the triple itself where it has
+  -- all three parts
   abbrev pub full : Triple → Option Triple
   full t = if is_whole t then Some t else maximal t
 
@@ -123,9 +136,11 @@ count (Some subtag) = 1
 abbrev pub subtag_count : Triple → ℕ
 subtag_count t = count t.0 + count t.1 + count t.2
 
--- The minimal form maximises to the form it was sought for, and nothing of that form's language with fewer subtags does.
+-- The minimal form maximises to the form it was sought for, and nothing of that form's language
+-- with fewer subtags does.
 pub record IsLeast (F : Tables) (t least : Triple) : Type 0 where
   pub form : Triple
   pub form_is : full F t ≡ Some form
   pub maximises : maximal F least ≡ Some form
-  pub least_is : (other : Triple) → other.0 ≡ form.0 → subtag_count other < subtag_count least → maximal F other ≢ Some form
+  pub least_is : (other : Triple) → other.0 ≡ form.0 → subtag_count other < subtag_count least
+      → maximal F other ≢ Some form

@@ -1,5 +1,6 @@
 -- The rows that likely tables are made from, and what is wrong with one.
-use Rattle.std.specs.Prelude.{◌≡◌, ◌≢◌, ◌⊎◌, ℕ, List, [], ◌∷◌, Option, Some, None, map, take, slice_get, Any}
+use Rattle.std.specs.Prelude.{◌≡◌, ◌≢◌, ◌⊎◌, ℕ, List, [], ◌∷◌, Option, Some, None, map, take}
+use Rattle.std.specs.Prelude.{slice_get, Any}
 use Rattle.std.specs.List.{AllZip}
 use Rattle.std.specs.declared.cmp.Ordering.{Ordering}
 use Rattle.tinystr.specs.Shapes.{IsRegion, IsScript}
@@ -8,8 +9,8 @@ use Rattle.unic_langid_impl.specs.Identifier.{IsIdentifier, print}
 use Rattle.unic_langid_impl.specs.Likely.{Table, Triple, identifier_of, row}
 use Rattle.unic_langid_impl.specs.Subtags.{IsLanguageOrNone, language_text}
 
--- A cell is the text of a language, `und` for none; of a language that is there; the printed text of a language that is there,
--- script and region.
+-- A cell is the text of a language, `und` for none; of a language that is there; the printed text
+-- of a language that is there, script and region.
 pub record LanguageCell (cell : List ℕ) (language : Option (List ℕ)) : Type 0 where
   pub shape : IsLanguageOrNone language
   pub text : language_text language ≡ cell
@@ -67,7 +68,8 @@ module _ {K : Type 0} (key : TextRow → K → Type 0) where
   AreSound rows = (entries : List (K × Triple)) × Say rows entries
 
   -- no row is faulty, and the table answers each key as they do
-  pub record IsTableOf (cmp : K → K → Ordering) (rows : List TextRow) (table : Table K) : Type 0 where
+  pub record IsTableOf (cmp : K → K → Ordering) (rows : List TextRow) (table : Table K) :
+      Type 0 where
     pub entries : List (K × Triple)
     pub say : Say rows entries
     pub same : (q : K) → row cmp table q ≡ row cmp entries q
@@ -79,7 +81,8 @@ module _ {K : Type 0} (key : TextRow → K → Type 0) where
   -- a row whose key is that of an earlier one
   abbrev pub HasEarlierKey : List TextRow → TextRow → Type 0
   HasEarlierKey earlier row =
-      (k : K) × key row k × ((t : Triple) × PrintsTriple row.third t) × Any (λ other. key other k) earlier
+      (k : K) × key row k × ((t : Triple) × PrintsTriple row.third t)
+      × Any (λ other. key other k) earlier
 
   -- row i is the first faulty one, and this is its fault
   pub record FirstFaultIs (rows : List TextRow) (i : ℕ) (fault : TextRow → Type 0) : Type 0 where

@@ -1,4 +1,5 @@
--- How identifiers compare: by language, script, region and variants, in this order; what is missing comes first.
+-- How identifiers compare: by language, script, region and variants, in this order; what is missing
+-- comes first.
 use Rattle.std.specs.Prelude.{ℕ, Bool, List, ◌++◌}
 use Rattle.std.specs.Cmp.Lexicographic.{pointwise, slice_cmp}
 use Rattle.std.specs.Hash as fed
@@ -10,13 +11,19 @@ use Rattle.unic_langid_impl.specs.Identifier.{Identifier, text_cmp}
 
 abbrev pub identifier_eq : Identifier → Identifier → Bool
 identifier_eq =
-    eq_of_both (eq_of_both (eq_of_both (on (λ i. i.language) (option_eq same_text)) (on (λ i. i.script) (option_eq same_text)))
+    eq_of_both
+    (eq_of_both
+    (eq_of_both (on (λ i. i.language) (option_eq same_text))
+    (on (λ i. i.script) (option_eq same_text)))
     (on (λ i. i.region) (option_eq same_text)))
     (on (λ i. i.variants) (pointwise same_text))
 
 abbrev pub identifier_cmp : Identifier → Identifier → Ordering
 identifier_cmp =
-    then_cmp (then_cmp (then_cmp (on (λ i. i.language) (option_cmp text_cmp)) (on (λ i. i.script) (option_cmp text_cmp)))
+    then_cmp
+    (then_cmp
+    (then_cmp (on (λ i. i.language) (option_cmp text_cmp))
+    (on (λ i. i.script) (option_cmp text_cmp)))
     (on (λ i. i.region) (option_cmp text_cmp)))
     (on (λ i. i.variants) (slice_cmp text_cmp))
 
@@ -24,4 +31,5 @@ identifier_cmp =
 abbrev pub identifier_writes : Identifier → fed.HashWrites
 identifier_writes i =
     fed.option fed.str i.language
-    ++ (fed.option fed.str i.script ++ (fed.option fed.str i.region ++ fed.slice fed.str i.variants))
+    ++ (fed.option fed.str i.script
+    ++ (fed.option fed.str i.region ++ fed.slice fed.str i.variants))

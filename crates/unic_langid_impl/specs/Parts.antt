@@ -5,7 +5,8 @@ use Rattle.unic_langid_impl.specs.Reading.{IsAscendingOf}
 use Rattle.unic_langid_impl.specs.Subtags.{Fits}
 
 -- the identifier has these parts, and of these variants each once, in order
-pub record HasParts (language script region : Option (List ℕ)) (variants : List (List ℕ)) (i : Identifier) : Type 0 where
+pub record HasParts (language script region : Option (List ℕ)) (variants : List (List ℕ))
+    (i : Identifier) : Type 0 where
   pub language_is : i.language ≡ language
   pub script_is : i.script ≡ script
   pub region_is : i.region ≡ region

@@ -1,4 +1,5 @@
--- The pieces of a text, cut at `-` and `_` (UTS 35, Unicode locale identifiers: either separates subtags).
+-- The pieces of a text, cut at `-` and `_` (UTS 35, Unicode locale identifiers: either separates
+-- subtags).
 use Rattle.std.specs.Prelude.{ℕ, Bool, ◌||◌, ◌==◌, List, [], ◌∷◌, Option, None, Some}
 use Rattle.std.specs.List.{slice_split}
 use Rattle.std.specs.Str.{byte}

@@ -1,6 +1,7 @@
--- The subtags of a Unicode language identifier (UTS 35, Unicode locale identifiers) in canonical case, and how each is read in
--- any case.
-use Rattle.std.specs.Prelude.{◌≡◌, ℕ, Bool, true, ◌&&◌, ◌||◌, ◌⊎◌, not, if◌then◌else◌, List, length, map, Option, Some, None, IfSome, unwrap_or, IsTrue, codes}
+-- The subtags of a Unicode language identifier (UTS 35, Unicode locale identifiers) in canonical
+-- case, and how each is read in any case.
+use Rattle.std.specs.Prelude.{◌≡◌, ℕ, Bool, true, ◌&&◌, ◌||◌, ◌⊎◌, not, if◌then◌else◌, List, length}
+use Rattle.std.specs.Prelude.{map, Option, Some, None, IfSome, unwrap_or, IsTrue, codes}
 use Rattle.std.specs.Char.{is_ascii_lowercase, to_ascii_lowercase, to_ascii_uppercase}
 use Rattle.std.specs.Int.{Width, from_le_bytes, is_in_range}
 use Rattle.std.specs.List.{list_all}
@@ -15,7 +16,8 @@ uppercase text = map to_ascii_uppercase text
 -- unicode_language_subtag: two, three or five to eight letters
 abbrev pub is_language : List ℕ → Bool
 is_language text =
-    (is_in_range 2 3 (length text) || is_in_range 5 8 (length text)) && list_all is_ascii_lowercase text
+    (is_in_range 2 3 (length text) || is_in_range 5 8 (length text))
+    && list_all is_ascii_lowercase text
 
 abbrev pub IsLanguage : List ℕ → Type 0
 IsLanguage text = IsTrue (is_language text)
@@ -45,4 +47,5 @@ raw width text = from_le_bytes width text
 -- equal, or missing on a side that is a range
 abbrev pub Fits : {X : Type 0} → Option X → Option X → Bool → Bool → Type 0
 Fits one other one_ranges other_ranges =
-    (one ≡ other) ⊎ (((one_ranges ≡ true) × (one ≡ None)) ⊎ ((other_ranges ≡ true) × (other ≡ None)))
+    (one ≡ other)
+    ⊎ (((one_ranges ≡ true) × (one ≡ None)) ⊎ ((other_ranges ≡ true) × (other ≡ None)))

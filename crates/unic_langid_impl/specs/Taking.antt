@@ -1,5 +1,7 @@
--- What a reader takes of the pieces that are left: one piece of a shape, or those in front that are variants.
-use Rattle.std.specs.Prelude.{◌≡◌, ℕ, Bool, false, if◌then◌else◌, List, [], ◌∷◌, ◌++◌, map, Option, None, Some, IfSome}
+-- What a reader takes of the pieces that are left: one piece of a shape, or those in front that are
+-- variants.
+use Rattle.std.specs.Prelude.{◌≡◌, ℕ, Bool, false, if◌then◌else◌, List, [], ◌∷◌, ◌++◌, map, Option}
+use Rattle.std.specs.Prelude.{None, Some, IfSome}
 use Rattle.std.specs.List.{All}
 use Rattle.tinystr.specs.Shapes.{IsVariant, is_variant}
 use Rattle.unic_langid_impl.specs.Pieces.{first_piece}

@@ -1,7 +1,12 @@
 ghost use Rattle.std.specs.Prelude.{◌≡◌, IsTrue, Some, option_and_then};
 ghost use Rattle.std.specs.Int.{w32, w64};
 ghost use Rattle.std.specs.Option.{option_map};
-ghost use Rattle.unic_langid_impl.specs.Direction.{direction, language_direction, is_in, is_likely_left_to_right, is_right_to_left_language, left_to_right_scripts, right_to_left_languages, right_to_left_scripts, script_direction, top_to_bottom_scripts};
+ghost use Rattle.unic_langid_impl.specs.Direction.{direction, language_direction, is_in};
+ghost use Rattle.unic_langid_impl.specs.Direction.{is_likely_left_to_right};
+ghost use Rattle.unic_langid_impl.specs.Direction.{is_right_to_left_language};
+ghost use Rattle.unic_langid_impl.specs.Direction.{left_to_right_scripts, right_to_left_languages};
+ghost use Rattle.unic_langid_impl.specs.Direction.{right_to_left_scripts, script_direction};
+ghost use Rattle.unic_langid_impl.specs.Direction.{top_to_bottom_scripts};
 ghost use Rattle.unic_langid_impl.specs.Likely.{triple_of};
 ghost use Rattle.unic_langid_impl.specs.Numbers.{ascends};
 ghost use Rattle.unic_langid_impl.specs.Subtags.{raw};

@@ -1,4 +1,5 @@
-ghost use Rattle.std.specs.Prelude.{◌≡◌, ◌↔◌, false, [], Ok, IfOk, IfErr, OnOk, OnErr, IsTrue, Contains};
+ghost use Rattle.std.specs.Prelude.{◌≡◌, ◌↔◌, false, [], Ok, IfOk, IfErr, OnOk, OnErr, IsTrue};
+ghost use Rattle.std.specs.Prelude.{Contains};
 ghost use Rattle.std.specs.Result.{OkIff};
 ghost use Rattle.unic_langid_impl.specs.Reading.{IsAscendingOf, Reads, id_of};
 ghost use Rattle.unic_langid_impl.specs.Faults.{IsFaultOf, RefusesPieces};

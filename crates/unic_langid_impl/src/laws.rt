@@ -1,6 +1,7 @@
 //! Laws of identifiers, for contracts that cite them. Each function does nothing: its contract is
 //! the law.
-ghost use Rattle.unic_langid_impl.specs.Laws.{IdDetermines, IdHasShape, MinimalIsLeast, PrintedIsRead};
+ghost use Rattle.unic_langid_impl.specs.Laws.{IdDetermines, IdHasShape, MinimalIsLeast};
+ghost use Rattle.unic_langid_impl.specs.Laws.{PrintedIsRead};
 
 /// Bytes are at most one identifier, and each of its subtags has its shape.
 pub fn id_determines()

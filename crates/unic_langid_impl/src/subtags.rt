@@ -1,5 +1,5 @@
-//! The subtags of an identifier in canonical case (UTS 35, Unicode locale identifiers), each a copied
-//! value that is compared, ordered and hashed as its text.
+//! The subtags of an identifier in canonical case (UTS 35, Unicode locale identifiers), each a
+//! copied value that is compared, ordered and hashed as its text.
 
 mod language;
 mod raw;

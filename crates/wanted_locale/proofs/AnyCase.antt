@@ -1,5 +1,6 @@
 -- Identifiers are read in any case: texts that differ by case alone are the same identifier.
-use Rattle.std.proofs.Common.{◌≡◌, ℕ, Bool, true, false, List, [], ◌∷◌, ◌++◌, Option, Some, None, map, drop, cond, refl, sym, ap, ◌∙◌, subst, arith}
+use Rattle.std.proofs.Common.{◌≡◌, ℕ, Bool, true, false, List, [], ◌∷◌, ◌++◌, Option, Some, None}
+use Rattle.std.proofs.Common.{map, drop, cond, refl, sym, ap, ◌∙◌, subst, arith}
 use Rattle.std.specs.Char.{to_ascii_lowercase, to_ascii_uppercase}
 use Rattle.std.specs.List.{All, onto_first}
 use Rattle.std.specs.Option.{option_map}
@@ -40,7 +41,8 @@ pieces_of-lowercase (c ∷ text) =
     (onto_first (to_ascii_lowercase c) (pieces_of-lowercase text i)))
     ∙ by (is_separator c) (pieces_of text)
   where
-    by : (b : Bool) (ps : List (List ℕ)) → cond b ([] ∷ map lowercase ps) (onto_first (to_ascii_lowercase c) (map lowercase ps))
+    by : (b : Bool) (ps : List (List ℕ))
+        → cond b ([] ∷ map lowercase ps) (onto_first (to_ascii_lowercase c) (map lowercase ps))
         ≡ map lowercase (cond b ([] ∷ ps) (onto_first c ps))
     by true ps = refl
     by false [] = refl
@@ -57,7 +59,8 @@ record Cut (o : Option (List ℕ)) (more qs : List (List ℕ)) : Type 0 where
   behind : map lowercase rest ≡ map lowercase more
 
 -- such pieces are cut behind that part
-cut : (o : Option (List ℕ)) (more qs : List (List ℕ)) → map lowercase qs ≡ map lowercase (part o ++ more) → Cut o more qs
+cut : (o : Option (List ℕ)) (more qs : List (List ℕ))
+    → map lowercase qs ≡ map lowercase (part o ++ more) → Cut o more qs
 cut None more qs e = record { piece = None; rest = qs; are = refl; same = refl; behind = e }
 cut (Some x) more [] e = cc
 cut (Some x) more (q ∷ qs) e =
@@ -73,14 +76,18 @@ module _ (case : List ℕ → List ℕ) (blind : (t : List ℕ) → case (lowerc
   same_case None (Some y) e = cc
   same_case (Some x) None e = cc
   same_case (Some x) (Some y) e =
-      let same : lowercase y ≡ lowercase x = cc in ap Some (sym (blind x) ∙ ap case (sym same) ∙ blind y)
+      let same : lowercase y ≡ lowercase x = cc in
+      ap Some (sym (blind x) ∙ ap case (sym same) ∙ blind y)
 
 -- pieces that differ by case alone are the same identifier
-other_pieces : (ps qs : List (List ℕ)) (i : Identifier) → map lowercase qs ≡ map lowercase ps → AreIdentifier ps i
+other_pieces : (ps qs : List (List ℕ)) (i : Identifier) → map lowercase qs ≡ map lowercase ps
+    → AreIdentifier ps i
     → AreIdentifier qs i
 other_pieces ps qs i e h = go qs (e ∙ ap (map lowercase) h.pieces_are)
   where
-    go : (qs : List (List ℕ)) → map lowercase qs ≡ map lowercase (h.language ∷ (part h.script ++ (part h.region ++ h.variants)))
+    go : (qs : List (List ℕ))
+        → map lowercase qs
+        ≡ map lowercase (h.language ∷ (part h.script ++ (part h.region ++ h.variants)))
         → AreIdentifier qs i
     go [] e = cc
     go (q ∷ qs) e =
@@ -91,19 +98,25 @@ other_pieces ps qs i e h = go qs (e ∙ ap (map lowercase) h.pieces_are)
           script = script.piece;
           region = region.piece;
           variants = region.rest;
-          pieces_are = ap (λ rest. q ∷ rest) (script.are ∙ ap (λ rest. part script.piece ++ rest) region.are);
+          pieces_are =
+              ap (λ rest. q ∷ rest)
+              (script.are ∙ ap (λ rest. part script.piece ++ rest) region.are);
           is_language = subst IsLanguage (sym first) h.is_language;
           is_script = h.is_script;
           is_region = h.is_region;
           are_variants = subst (All IsVariant) (sym region.behind) h.are_variants;
           language_is = h.language_is ∙ ap language_of (sym first);
-          script_is = h.script_is ∙ same_case titlecase titlecase-lowercase h.script script.piece script.same;
-          region_is = h.region_is ∙ same_case uppercase uppercase-lowercase h.region region.piece region.same;
-          variants_are = subst (λ texts. IsAscendingOf texts i.variants) (sym region.behind) h.variants_are;
+          script_is = h.script_is
+              ∙ same_case titlecase titlecase-lowercase h.script script.piece script.same;
+          region_is = h.region_is
+              ∙ same_case uppercase uppercase-lowercase h.region region.piece region.same;
+          variants_are =
+              subst (λ texts. IsAscendingOf texts i.variants) (sym region.behind) h.variants_are;
         }
 
 -- texts that differ by case alone are the same identifier
-pub in_any_case : (s t : List ℕ) (i : Identifier) → lowercase s ≡ lowercase t → id_of t i → id_of s i
+pub in_any_case : (s t : List ℕ) (i : Identifier) → lowercase s ≡ lowercase t
+    → id_of t i → id_of s i
 in_any_case s t i e h =
     other_pieces (pieces_of t) (pieces_of s) i
     (sym (pieces_of-lowercase s) ∙ ap pieces_of e ∙ pieces_of-lowercase t) h

@@ -1,5 +1,6 @@
 -- Over an empty registry whole tags and the parts of a locale are in canonical form.
-use Rattle.std.proofs.Common.{rules, ◌≡◌, ◌≤◌, ℕ, Bool, true, false, cond, List, [], ◌∷◌, ◌++◌, Option, Some, None, map, length, refl, sym, ap, subst, arith}
+use Rattle.std.proofs.Common.{rules, ◌≡◌, ◌≤◌, ℕ, Bool, true, false, cond, List, [], ◌∷◌, ◌++◌}
+use Rattle.std.proofs.Common.{Option, Some, None, map, length, refl, sym, ap, subst, arith}
 use Rattle.std.specs.Prelude.{◌||◌, IfSome}
 use Rattle.std.specs.List.{list_any}
 use Rattle.std.specs.Option.{option_map}
@@ -30,7 +31,8 @@ region_short : (y : List ℕ) → IsRegion y → length y ≤ 3
 region_short y h = grind (arith, nat_tests)
 
 -- so it doesn't stand among those written before it
-new_variant : (x language : List ℕ) (script region : Option (List ℕ)) → IsVariant x → length language ≤ 3
+new_variant : (x language : List ℕ) (script region : Option (List ℕ)) → IsVariant x
+    → length language ≤ 3
     → IfSome script IsScript → IfSome region IsRegion
     → list_any (bytes_eq x) (language ∷ (at_most_one script ++ at_most_one region)) ≡ false
 new_variant x language script region v short s r =
@@ -40,17 +42,20 @@ new_variant x language script region v short s r =
     no_script y s = by (bytes_eq x y) refl
       where
         by : (b : Bool) → bytes_eq x y ≡ b → b ≡ false
-        by true e = absurd (variant_script x v (subst IsScript (sym ((bytes_eq-Decides x y).0 e)) s))
+        by true e =
+            absurd (variant_script x v (subst IsScript (sym ((bytes_eq-Decides x y).0 e)) s))
         by false e = refl
 
     no_region : (y : List ℕ) → IsRegion y → bytes_eq x y ≡ false
     no_region y r = longer x y v (region_short y r)
 
-    none_region : (o : Option (List ℕ)) → IfSome o IsRegion → list_any (bytes_eq x) (at_most_one o) ≡ false
+    none_region : (o : Option (List ℕ)) → IfSome o IsRegion
+        → list_any (bytes_eq x) (at_most_one o) ≡ false
     none_region None h = refl
     none_region (Some y) h = λ i. no_region y h i || false
 
-    none_script : (o : Option (List ℕ)) → IfSome o IsScript → list_any (bytes_eq x) (at_most_one o ++ at_most_one region) ≡ false
+    none_script : (o : Option (List ℕ)) → IfSome o IsScript
+        → list_any (bytes_eq x) (at_most_one o ++ at_most_one region) ≡ false
     none_script None h = none_region region r
     none_script (Some y) h = λ i. no_script y h i || none_region region r i
 
@@ -68,7 +73,8 @@ region-stays None = refl
 region-stays (Some s) = refl
 
 -- a whole tag stays
-pub whole_stays : (private old : Bool) (text : List ℕ) → IsCanonIn private old empty_registry (Whole text) (Some (Whole text))
+pub whole_stays : (private old : Bool) (text : List ℕ)
+    → IsCanonIn private old empty_registry (Whole text) (Some (Whole text))
 whole_stays true old text = refl
 whole_stays false true text = refl
 whole_stays false false text = refl
@@ -90,12 +96,17 @@ module _ (l : Locale) (h : IsLocale l) (short : length l.language ≤ 3) where
   -- the variant isn't among those written before it
   kept_variant : (o : Option (List ℕ)) → IfSome o IsVariant
       → at_most_one o
-      ≡ not_written (l.language ∷ (at_most_one l.script ++ at_most_one l.region)) (map (replaced []) (at_most_one o))
+      ≡ not_written (l.language ∷ (at_most_one l.script ++ at_most_one l.region))
+      (map (replaced []) (at_most_one o))
   kept_variant None v = refl
-  kept_variant (Some x) v = sym (ap (λ b. cond b [] (x ∷ [])) (new_variant x l.language l.script l.region v short h.script h.region))
+  kept_variant (Some x) v =
+      sym
+      (ap (λ b. cond b [] (x ∷ []))
+      (new_variant x l.language l.script l.region v short h.script h.region))
 
   -- so the parts of a locale stay
-  pub parts_stay : (private old : Bool) → IsCanonIn private old empty_registry (Plain (parts_of l)) (Some (Plain (parts_of l)))
+  pub parts_stay : (private old : Bool)
+      → IsCanonIn private old empty_registry (Plain (parts_of l)) (Some (Plain (parts_of l)))
   parts_stay true old = refl
   parts_stay false true = refl
   parts_stay false false = (

@@ -1,5 +1,8 @@
--- Over an empty registry the printed text of a data locale without subdivision asks for that locale.
-use Rattle.std.proofs.Common.{◌≡◌, ◌≤◌, ℕ, Bool, true, false, cond, inl, List, [], ◌∷◌, ◌++◌, Option, Some, None, map, length, refl, sym, ap, ◌∙◌, subst, append-nil, arith}
+-- Over an empty registry the printed text of a data locale without subdivision asks for that
+-- locale.
+use Rattle.std.proofs.Common.{◌≡◌, ◌≤◌, ℕ, Bool, true, false, cond, inl, List, [], ◌∷◌, ◌++◌}
+use Rattle.std.proofs.Common.{Option, Some, None, map, length, refl, sym, ap, ◌∙◌, subst}
+use Rattle.std.proofs.Common.{append-nil, arith}
 use Rattle.std.specs.Prelude.{◌&&◌, IfSome, codes}
 use Rattle.std.specs.Char.{is_ascii_lowercase}
 use Rattle.std.specs.List.{All, find, list_all}
@@ -10,16 +13,21 @@ use Rattle.std.proofs.lemmas.Bool.Decides.{nat_tests}
 use Rattle.std.proofs.lemmas.List.Elements.{All-nil, All-cons}
 use Rattle.std.proofs.lemmas.Slice.Eq.{bytes_eq-Decides}
 use Rattle.icu_locale_core.specs.Locale.{IsLocale, Locale, print}
-use Rattle.icu_locale_core.specs.Shapes.{IsLanguage, IsRegion, IsScript, IsVariant, is_language, is_region, is_script, is_variant}
+use Rattle.icu_locale_core.specs.Shapes.{IsLanguage, IsRegion, IsScript, IsVariant, is_language}
+use Rattle.icu_locale_core.specs.Shapes.{is_region, is_script, is_variant}
 use Rattle.language_tags.specs.PrivateUse.{is_private_use}
-use Rattle.language_tags_grammar.specs.Grandfathered.{grandfathered, grandfathereds, is_grandfathered}
-use Rattle.language_tags_grammar.specs.Lemmas.KeptLaws.{clean-append, one-clean, pieces-print, region-clean, script-clean, smalls-clean}
-use Rattle.language_tags_grammar.specs.Lemmas.PartsLaws.{letters-small, region-upper, script-title, small-lowercase, variant-small}
+use Rattle.language_tags_grammar.specs.Grandfathered.{grandfathered, grandfathereds}
+use Rattle.language_tags_grammar.specs.Grandfathered.{is_grandfathered}
+use Rattle.language_tags_grammar.specs.Lemmas.KeptLaws.{clean-append, one-clean, pieces-print}
+use Rattle.language_tags_grammar.specs.Lemmas.KeptLaws.{region-clean, script-clean, smalls-clean}
+use Rattle.language_tags_grammar.specs.Lemmas.PartsLaws.{letters-small, region-upper, script-title}
+use Rattle.language_tags_grammar.specs.Lemmas.PartsLaws.{small-lowercase, variant-small}
 use Rattle.language_tags_grammar.specs.Lemmas.PieceLaws.{pieces-lowercase}
 use Rattle.language_tags_grammar.specs.Lemmas.PrivateLaws.{begins_otherwise}
 use Rattle.language_tags_grammar.specs.Pieces.{joined, lowercase, pieces, titlecase, uppercase}
 use Rattle.language_tags_grammar.specs.Shapes.{AreParts}
-use Rattle.language_tags_grammar.specs.Tag.{Plain, Whole, at_most_one, front_of, print as tag_text, written}
+use Rattle.language_tags_grammar.specs.Tag.{Plain, Whole, at_most_one, front_of, print as tag_text}
+use Rattle.language_tags_grammar.specs.Tag.{written}
 use Rattle.language_tags_grammar.specs.TagOf.{IsTagOf, langtag, whole}
 use Rattle.unic_langid_impl.specs.Identifier.{Ascend, Identifier}
 use Rattle.unic_langid_impl.specs.Pieces.{pieces_of}
@@ -32,18 +40,21 @@ use Rattle.wanted_locale.proofs.EmptyRegistry.{parts_of, parts_stay, whole_stays
 use Rattle.wanted_locale.proofs.PrintedText.{pieces_of-joined, print-is, subtags}
 
 -- what is found passes the test
-find_passes : (test : List ℕ → Bool) (gs : List (List ℕ)) (g : List ℕ) → find test gs ≡ Some g → test g ≡ true
+find_passes : (test : List ℕ → Bool) (gs : List (List ℕ)) (g : List ℕ) → find test gs ≡ Some g
+    → test g ≡ true
 find_passes test [] g e = cc
 find_passes test (x ∷ gs) g e = by (find_passes test gs g) (test x) refl e
   where
-    by : (find test gs ≡ Some g → test g ≡ true) → (b : Bool) → test x ≡ b → cond b (Some x) (find test gs) ≡ Some g → test g ≡ true
+    by : (find test gs ≡ Some g → test g ≡ true) → (b : Bool) → test x ≡ b
+        → cond b (Some x) (find test gs) ≡ Some g → test g ≡ true
     by rest true passes f = let same : x ≡ g = cc in ap test (sym same) ∙ passes
     by rest false passes f = rest f
 
 -- a grandfathered tag is its text without case
 found_lowercase : (text g : List ℕ) → grandfathered text ≡ Some g → lowercase g ≡ lowercase text
 found_lowercase text g e =
-    (bytes_eq-Decides (lowercase g) (lowercase text)).0 (find_passes (λ h. bytes_eq (lowercase h) (lowercase text)) grandfathereds g e)
+    (bytes_eq-Decides (lowercase g) (lowercase text)).0
+    (find_passes (λ h. bytes_eq (lowercase h) (lowercase text)) grandfathereds g e)
 
 -- no language is `x`
 x_is_short : (t : List ℕ) → IsLanguage t → t ≡ codes "x" → ⊥
@@ -70,7 +81,8 @@ region-same None h = refl
 region-same (Some s) h = ap Some (sym (region-upper s h) ∙ uppercase-lowercase s)
 
 -- and a variant
-variant-same : (o : Option (List ℕ)) → IfSome o IsVariant → map lowercase (at_most_one o) ≡ at_most_one o
+variant-same : (o : Option (List ℕ)) → IfSome o IsVariant
+    → map lowercase (at_most_one o) ≡ at_most_one o
 variant-same None h = refl
 variant-same (Some s) h = λ i. small-lowercase s (variant-small s h) i ∷ []
 
@@ -80,7 +92,8 @@ one_variant None h = All-nil IsVariant
 one_variant (Some s) h = All-cons IsVariant s [] h (All-nil IsVariant)
 
 -- in the words of a tag's shapes
-all_variants : (o : Option (List ℕ)) → IfSome o IsVariant → list_all is_variant (at_most_one o) ≡ true
+all_variants : (o : Option (List ℕ)) → IfSome o IsVariant
+    → list_all is_variant (at_most_one o) ≡ true
 all_variants None h = refl
 all_variants (Some s) h = λ i. h i && true
 
@@ -128,13 +141,15 @@ module _ (l : Locale) (h : IsLocale l) (none : l.subdivision ≡ None) where
   -- and of all of them
   written_is : written (parts_of l) ≡ l.language ∷ subtags l
   written_is =
-      ap (λ vs. l.language ∷ (at_most_one l.script ++ (at_most_one l.region ++ vs))) (append-nil (at_most_one l.variant))
+      ap (λ vs. l.language ∷ (at_most_one l.script ++ (at_most_one l.region ++ vs)))
+      (append-nil (at_most_one l.variant))
 
   -- its pieces
   pieces_are : pieces_of (print l) ≡ l.language ∷ subtags l
   pieces_are =
       ap pieces_of (print-is l none)
-      ∙ pieces_of-joined l.language (subtags l) (smalls-clean l.language (letters-small l.language letters))
+      ∙ pieces_of-joined l.language (subtags l)
+      (smalls-clean l.language (letters-small l.language letters))
       (clean-append (at_most_one l.script) _ (one-clean is_script script-clean l.script h.script)
       (clean-append (at_most_one l.region) _ (one-clean is_region region-clean l.region h.region)
       (one-clean is_variant (λ x e. smalls-clean x (variant-small x e)) l.variant h.variant)))
@@ -152,18 +167,21 @@ module _ (l : Locale) (h : IsLocale l) (none : l.subdivision ≡ None) where
         region = l.region;
         variants = at_most_one l.variant;
         pieces_are = pieces_are;
-        is_language = (let shape : IsLanguage l.language = h.language in rw lower (grind (arith, nat_tests)));
+        is_language =
+            (let shape : IsLanguage l.language = h.language in rw lower (grind (arith, nat_tests)));
         is_script = h.script;
         is_region = h.region;
         are_variants = rw variants (one_variant l.variant h.variant);
         language_is = ap language_of (sym lower);
         script_is = script-same l.script h.script;
         region_is = region-same l.region h.region;
-        variants_are = rw variants (record { ascend = ascends l.variant; same = λ t. (λ g. g, λ g. g) });
+        variants_are =
+            rw variants (record { ascend = ascends l.variant; same = λ t. (λ g. g, λ g. g) });
       }
 
   -- where the text is a grandfathered tag it stays that tag, and is read in that spelling
-  grandfathered_wants : (g : List ℕ) → grandfathered (print l) ≡ Some g → HasIdentifier empty_registry (print l) (identifier_of l)
+  grandfathered_wants : (g : List ℕ) → grandfathered (print l) ≡ Some g
+      → HasIdentifier empty_registry (print l) (identifier_of l)
   grandfathered_wants g e = record {
     front = g;
     has = record {
@@ -182,15 +200,18 @@ module _ (l : Locale) (h : IsLocale l) (none : l.subdivision ≡ None) where
   is_langtag : grandfathered (print l) ≡ None → IsTagOf (print l) (Plain (parts_of l))
   is_langtag e =
       let text : print l ≡ joined (written (parts_of l)) = text_is ∙ ap joined (sym written_is) in
-      let cut : pieces (print l) ≡ written (parts_of l) = ap pieces text ∙ pieces-print (parts_of l) shapes in
+      let cut : pieces (print l) ≡ written (parts_of l) =
+      ap pieces text ∙ pieces-print (parts_of l) shapes in
       langtag e
-      (begins_otherwise (print l) l.language _ cut (λ x. absurd (x_is_short l.language h.language (sym lower ∙ x))))
+      (begins_otherwise (print l) l.language _ cut
+      (λ x. absurd (x_is_short l.language h.language (sym lower ∙ x))))
       (parts_of l)
       (record { shapes = shapes; in_order = pieces-lowercase (print l) ∙ ap (map lowercase) cut })
       refl
 
   -- which stay
-  parts_want : grandfathered (print l) ≡ None → HasIdentifier empty_registry (print l) (identifier_of l)
+  parts_want : grandfathered (print l) ≡ None
+      → HasIdentifier empty_registry (print l) (identifier_of l)
   parts_want e = record {
     front = print l;
     has = record {
@@ -198,7 +219,9 @@ module _ (l : Locale) (h : IsLocale l) (none : l.subdivision ≡ None) where
       has = record {
         tag = Plain (parts_of l);
         parsed = is_langtag e;
-        canon = parts_stay l h short (is_private_use (Plain (parts_of l))) (is_grandfathered (tag_text (Plain (parts_of l))));
+        canon =
+            parts_stay l h short (is_private_use (Plain (parts_of l)))
+            (is_grandfathered (tag_text (Plain (parts_of l))));
       };
       front_is = text_is;
     };
@@ -206,7 +229,8 @@ module _ (l : Locale) (h : IsLocale l) (none : l.subdivision ≡ None) where
   }
 
   -- so either way it asks for the identifier
-  wants : (o : Option (List ℕ)) → grandfathered (print l) ≡ o → HasIdentifier empty_registry (print l) (identifier_of l)
+  wants : (o : Option (List ℕ)) → grandfathered (print l) ≡ o
+      → HasIdentifier empty_registry (print l) (identifier_of l)
   wants None e = parts_want e
   wants (Some g) e = grandfathered_wants g e
 

@@ -1,5 +1,5 @@
--- Laws of wanted locales, as statements: a text asks for one locale or has one cause, never both; which variant is kept; and
--- what texts ask for over an empty registry.
+-- Laws of wanted locales, as statements: a text asks for one locale or has one cause, never both;
+-- which variant is kept; and what texts ask for over an empty registry.
 use Rattle.std.specs.Prelude.{◌≡◌, ◌≢◌, ◌↔◌, ◌≤◌, ℕ, List, [], length, Some, None}
 use Rattle.std.specs.List.{Contains}
 use Rattle.std.specs.declared.cmp.Ordering.TheVariants.{Less}
@@ -17,15 +17,18 @@ use Rattle.wanted_locale.specs.declared.error.TagCause.TheVariants.{Canonical}
 
 -- a text asks for one locale at most
 abbrev pub OneWanted : Type 0
-OneWanted = (R : Tables) (text : List ℕ) (l m : Locale) → IsWantedOf R text l → IsWantedOf R text m → l ≡ m
+OneWanted = (R : Tables) (text : List ℕ) (l m : Locale) → IsWantedOf R text l
+    → IsWantedOf R text m → l ≡ m
 
 -- it has one cause at most
 abbrev pub OneCause : Type 0
-OneCause = (R : Tables) (text : List ℕ) (c d : TagCause) → IsTagCause R text c → IsTagCause R text d → c ≡ d
+OneCause = (R : Tables) (text : List ℕ) (c d : TagCause) → IsTagCause R text c
+    → IsTagCause R text d → c ≡ d
 
 -- and none where it asks for a locale
 abbrev pub NeverBoth : Type 0
-NeverBoth = (R : Tables) (text : List ℕ) (l : Locale) (c : TagCause) → IsWantedOf R text l → ¬ (IsTagCause R text c)
+NeverBoth = (R : Tables) (text : List ℕ) (l : Locale) (c : TagCause) → IsWantedOf R text l
+    → ¬ (IsTagCause R text c)
 
 -- this text stands among some, and none of them is less
 pub record IsLeastOf (texts : List (List ℕ)) (least_text : List ℕ) : Type 0 where
@@ -44,7 +47,8 @@ empty_registry = tables_at []
 
 -- over it the printed text of a data locale without subdivision asks for that locale
 abbrev pub PrintedIsWanted : Type 0
-PrintedIsWanted = (l : Locale) → IsLocale l → l.subdivision ≡ None → IsWantedOf empty_registry (print l) l
+PrintedIsWanted = (l : Locale) → IsLocale l → l.subdivision ≡ None
+    → IsWantedOf empty_registry (print l) l
 
 -- and a tag has no canonical form exactly where it isn't whole and has two extlangs or more
 abbrev pub CanonicalByExtlangs : Type 0
@@ -56,9 +60,11 @@ CanonicalByExtlangs =
 -- over registries that answer each key alike a text asks for the same locale
 abbrev pub WantedGoesByAnswers : Type 0
 WantedGoesByAnswers =
-    (R S : Tables) (text : List ℕ) (l : Locale) → AnswerAlike R S → IsWantedOf R text l → IsWantedOf S text l
+    (R S : Tables) (text : List ℕ) (l : Locale) → AnswerAlike R S → IsWantedOf R text l
+    → IsWantedOf S text l
 
 -- or has the same cause
 abbrev pub CauseGoesByAnswers : Type 0
 CauseGoesByAnswers =
-    (R S : Tables) (text : List ℕ) (cause : TagCause) → AnswerAlike R S → IsTagCause R text cause → IsTagCause S text cause
+    (R S : Tables) (text : List ℕ) (cause : TagCause) → AnswerAlike R S → IsTagCause R text cause
+    → IsTagCause S text cause

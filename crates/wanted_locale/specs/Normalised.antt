@@ -1,4 +1,5 @@
--- The locale that a bundle is for: the one that its tag asks for, normalised (UTS 35, locale inheritance).
+-- The locale that a bundle is for: the one that its tag asks for, normalised (UTS 35, locale
+-- inheritance).
 use Rattle.std.specs.Prelude.{◌≡◌, ℕ, List}
 use Rattle.icu_locale_core.specs.Locale.{Locale}
 use Rattle.icu_locale_fallback.specs.Normal.{normal}

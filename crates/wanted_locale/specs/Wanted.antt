@@ -1,4 +1,5 @@
--- The data locale that a tag asks for: RFC 5646, sections 2.1 and 4.5, then UTS 35, Unicode language and locale identifiers.
+-- The data locale that a tag asks for: RFC 5646, sections 2.1 and 4.5, then UTS 35, Unicode
+-- language and locale identifiers.
 -- That of several variants the least is kept is this project's own.
 use Rattle.std.specs.Prelude.{◌≡◌, ◌≢◌, ◌≤◌, ℕ, List, [], ◌∷◌, length, Option, Some, None}
 use Rattle.icu_locale_core.specs.Locale.{Locale}
@@ -16,7 +17,8 @@ use Rattle.unic_langid_impl.specs.declared.errors.LanguageIdentifierError.TheVar
 use Rattle.unic_langid_impl.specs.declared.parser.error.ParserError.TheVariants as parser
 use Rattle.unic_langid_impl.specs.Faults as identifiers
 use Rattle.wanted_locale.specs.declared.error.TagCause.{TagCause}
-use Rattle.wanted_locale.specs.declared.error.TagCause.TheVariants.{Parse, Canonical, Identifier as NoIdentifier}
+use Rattle.wanted_locale.specs.declared.error.TagCause.TheVariants.{Parse, Canonical}
+use Rattle.wanted_locale.specs.declared.error.TagCause.TheVariants.{Identifier as NoIdentifier}
 
 -- the text is a tag, and this is its canonical form, or it has none
 pub record HasCanon (R : Tables) (text : List ℕ) (canonical : Option Tag) : Type 0 where
@@ -67,11 +69,14 @@ pub record IsWantedOf (R : Tables) (text : List ℕ) (l : Locale) : Type 0 where
 abbrev pub InvalidLanguage : TagCause
 InvalidLanguage = NoIdentifier (identifier.ParserError parser.InvalidLanguage)
 
--- Why a text asks for no locale: it is no tag; it has two extlangs or more; what is left of its canonical form is no identifier;
--- or the language has more than three letters.
+-- Why a text asks for no locale: it is no tag; it has two extlangs or more; what is left of its
+-- canonical form is no identifier; or the language has more than three letters.
 pub data IsTagCause (R : Tables) (text : List ℕ) (cause : TagCause) : Type 0 where
-  no_tag : {fault : _} → fault ≢ parse.NoMemory → IsFaultOf text fault → cause ≡ Parse fault → IsTagCause R text cause
-  no_canon : HasCanon R text None → cause ≡ Canonical validity.MultipleExtendedLanguageSubtags → IsTagCause R text cause
+  no_tag : {fault : _} → fault ≢ parse.NoMemory → IsFaultOf text fault → cause ≡ Parse fault
+      → IsTagCause R text cause
+  no_canon : HasCanon R text None → cause ≡ Canonical validity.MultipleExtendedLanguageSubtags
+      → IsTagCause R text cause
   no_identifier : {front : List ℕ} {fault : _} → HasFront R text front → fault ≢ identifier.NoMemory
       → identifiers.IsFaultOf front fault → cause ≡ NoIdentifier fault → IsTagCause R text cause
-  long_language : {i : Identifier} → HasIdentifier R text i → ¬ IsShort i → cause ≡ InvalidLanguage → IsTagCause R text cause
+  long_language : {i : Identifier} → HasIdentifier R text i → ¬ IsShort i → cause ≡ InvalidLanguage
+      → IsTagCause R text cause

@@ -4,7 +4,8 @@ use Rattle.language_tags.specs.Words as validity
 use Rattle.language_tags_grammar.specs.Words as grammar
 use Rattle.unic_langid_impl.specs.Words as identifiers
 use Rattle.wanted_locale.specs.declared.error.TagCause.{TagCause}
-use Rattle.wanted_locale.specs.declared.error.TagCause.TheVariants.{Parse, Canonical, Identifier, NoMemory}
+use Rattle.wanted_locale.specs.declared.error.TagCause.TheVariants.{Parse, Canonical, Identifier}
+use Rattle.wanted_locale.specs.declared.error.TagCause.TheVariants.{NoMemory}
 
 -- what `TagCause::text` says: the words of the error that it carries
 abbrev pub words_of : TagCause → List ℕ

@@ -1,7 +1,7 @@
 //! Texts that values write, and the outside that they are written to and read from.
 //!
-//! A [`Writeable`] value means one text and writes it, piece by piece, to a [`Sink`], without making it
-//! in memory first.
+//! A [`Writeable`] value means one text and writes it, piece by piece, to a [`Sink`], without
+//! making it in memory first.
 //!
 //! ```
 //! let page = concat_writeable!(Text("page "), 7u8);
@@ -11,10 +11,11 @@
 //! assert_eq!(page.writeable_length_hint(), LengthHint::exact(6));
 //! ```
 //!
-//! This crate passes on what stands in crates of their own, so that each is small. A crate that needs
-//! the traits alone stands on `writeable_core`.
+//! This crate passes on what stands in crates of their own, so that each is small. A crate that
+//! needs the traits alone stands on `writeable_core`.
 //!
-//! - `writeable_core`: the traits [`Writeable`], [`Sink`], [`PartsWrite`] and [`Source`], hints, parts,
+//! - `writeable_core`: the traits [`Writeable`], [`Sink`], [`PartsWrite`] and [`Source`], hints,
+//!   parts,
 //!   [`StringSink`], [`SliceSource`], and texts that structs own.
 //! - `writeable_sinks`: the other sinks and sources.
 //! - `writeable_adapters`: [`adapters`], [`TryWriteable`], and hints of several texts.

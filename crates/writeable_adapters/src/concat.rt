@@ -5,7 +5,8 @@ ghost use Rattle.writeable_core.specs.Hint.{hint_sum};
 ghost use Rattle.writeable_core.specs.HintLaws.{Hinted-append};
 ghost use Rattle.writeable_core.specs.MarksLaws.{characters-both, Nests-append};
 ghost use Rattle.writeable_adapters.specs.TryConcat.{followed, first_error, try_sum};
-ghost use Rattle.writeable_adapters.specs.TryConcatLaws.{followed-characters, followed-Nests, followed-Hinted};
+ghost use Rattle.writeable_adapters.specs.TryConcatLaws.{followed-characters, followed-Nests};
+ghost use Rattle.writeable_adapters.specs.TryConcatLaws.{followed-Hinted};
 
 use crate::TryWriteable;
 use writeable_core::{LengthHint, PartsWrite, Sink, SinkError, Writeable};
@@ -43,11 +44,15 @@ impl<A: Writeable, B: Writeable> Writeable for Concat<A, B> {
         None
     }
 
-    ghost marked_text = { λ s. characters-both (A.marked s.0) (B.marked s.1) (A.marked_text s.0) (B.marked_text s.1) };
+    ghost marked_text = { λ s.
+        characters-both (A.marked s.0) (B.marked s.1) (A.marked_text s.0) (B.marked_text s.1) };
 
-    ghost marked_nests = { λ s. Nests-append (A.marked s.0) (B.marked s.1) (A.marked_nests s.0) (B.marked_nests s.1) };
+    ghost marked_nests = { λ s.
+        Nests-append (A.marked s.0) (B.marked s.1) (A.marked_nests s.0) (B.marked_nests s.1) };
 
-    ghost text_hinted = { λ s. Hinted-append (A.hint s.0) (B.hint s.1) (A.text s.0) (B.text s.1) (A.text_hinted s.0) (B.text_hinted s.1) };
+    ghost text_hinted = { λ s.
+        Hinted-append (A.hint s.0) (B.hint s.1) (A.text s.0) (B.text s.1) (A.text_hinted s.0)
+        (B.text_hinted s.1) };
 }
 
 /// Where the first text is written with an error, the second one isn't written.
@@ -91,9 +96,14 @@ impl<A: TryWriteable, B: TryWriteable<Error = A::Error>> TryWriteable for Concat
         None
     }
 
-    ghost marked_text = { λ s. followed-characters (A.error s.0) (A.marked s.0) (B.marked s.1) (A.marked_text s.0) (B.marked_text s.1) };
+    ghost marked_text = { λ s.
+        followed-characters (A.error s.0) (A.marked s.0) (B.marked s.1) (A.marked_text s.0)
+        (B.marked_text s.1) };
 
-    ghost marked_nests = { λ s. followed-Nests (A.error s.0) (A.marked s.0) (B.marked s.1) (A.marked_nests s.0) (B.marked_nests s.1) };
+    ghost marked_nests = { λ s.
+        followed-Nests (A.error s.0) (A.marked s.0) (B.marked s.1) (A.marked_nests s.0)
+        (B.marked_nests s.1) };
 
-    ghost text_hinted = { λ s. followed-Hinted (A.error s.0) (A.hint s.0) (B.hint s.1) (A.text s.0) (B.text s.1) (A.text_hinted s.0) (B.text_hinted s.1) };
+    ghost text_hinted = { λ s. followed-Hinted (A.error s.0) (A.hint s.0) (B.hint s.1) (A.text s.0)
+        (B.text s.1) (A.text_hinted s.0) (B.text_hinted s.1) };
 }

@@ -1,4 +1,5 @@
-//! Writeable values of the crate `writeable` that are made of others, and values that may mean an error.
+//! Writeable values of the crate `writeable` that are made of others, and values that may mean an
+//! error.
 //!
 //! ```
 //! let page = Concat(Text("page "), 7u8);
@@ -9,8 +10,8 @@
 //! ```
 //!
 //! - `concat`: [`Concat`], one value and then another.
-//! - `parts_write_adapter`: [`WithPart`], a value inside a part, and [`CoreWriteAsPartsWrite`], a sink of
-//!   marked texts that drops the marks.
+//! - `parts_write_adapter`: [`WithPart`], a value inside a part, and [`CoreWriteAsPartsWrite`], a
+//!   sink of marked texts that drops the marks.
 //! - `try_writeable`: the trait [`TryWriteable`], `Result`, and values that have no error.
 //! - `sides`: a value of one of two types.
 //! - `lossy`: [`LossyWrap`], which drops a value's error.

@@ -2,13 +2,14 @@
 
 ghost use Rattle.std.specs.Prelude.{◌≡◌, ℕ, List, [], ◌∷◌, None, OnOk, OnErr, IsOk};
 ghost use Rattle.writeable_core.specs.Marks.{Mark, plain, characters, inside, part_name};
-ghost use Rattle.writeable_core.specs.MarksLaws.{characters-plain, characters-append, characters-inside, Nests-inside};
+ghost use Rattle.writeable_core.specs.MarksLaws.{characters-plain, characters-append};
+ghost use Rattle.writeable_core.specs.MarksLaws.{characters-inside, Nests-inside};
 ghost use Rattle.writeable_core.specs.Sink.{TookPrefix, HasCause};
 
 use writeable_core::{LengthHint, Part, PartsWrite, Sink, SinkError, Writeable};
 
-/// A sink of marked texts over a sink of texts: it passes the characters on, and drops the marks. It
-/// doesn't tell how many parts are open.
+/// A sink of marked texts over a sink of texts: it passes the characters on, and drops the marks.
+/// It doesn't tell how many parts are open.
 #[derive(Drop)]
 pub struct CoreWriteAsPartsWrite<W>(pub W);
 
@@ -50,7 +51,8 @@ impl<W: Sink> PartsWrite for CoreWriteAsPartsWrite<W> {
     fn open_part(&mut self, _part: Part) -> Result<(), SinkError>
         ensures ok { OnOk result (W.took self.old.0 [] self.new.0) }
         ensures err { OnErr result (W.took self.old.0 [] self.new.0) }
-        ensures cause { HasCause (W.faults self.old.0) (W.faults self.new.0) (W.takes_memory self.old.0) result }
+        ensures cause { HasCause (W.faults self.old.0) (W.faults self.new.0)
+            (W.takes_memory self.old.0) result }
         ensures never_fails { IsOk result }
         ensures kept { self.new.0 ≡ self.old.0 }
     {
@@ -60,14 +62,17 @@ impl<W: Sink> PartsWrite for CoreWriteAsPartsWrite<W> {
     fn close_part(&mut self) -> Result<(), SinkError>
         ensures ok { OnOk result (W.took self.old.0 [] self.new.0) }
         ensures err { OnErr result (W.took self.old.0 [] self.new.0) }
-        ensures cause { HasCause (W.faults self.old.0) (W.faults self.new.0) (W.takes_memory self.old.0) result }
+        ensures cause { HasCause (W.faults self.old.0) (W.faults self.new.0)
+            (W.takes_memory self.old.0) result }
         ensures never_fails { IsOk result }
         ensures kept { self.new.0 ≡ self.old.0 }
     {
         Ok(())
     }
 
-    ghost marks_both = { λ a b c s t p q. subst (λ u. W.took a.0 u c.0) (sym (characters-append s t)) (W.took_both a.0 b.0 c.0 (characters s) (characters t) p q) };
+    ghost marks_both = { λ a b c s t p q.
+        subst (λ u. W.took a.0 u c.0) (sym (characters-append s t))
+        (W.took_both a.0 b.0 c.0 (characters s) (characters t) p q) };
 
     ghost marks_of_text = { λ a b t p. subst (λ u. W.took a.0 u b.0) (sym (characters-plain t)) p };
 
@@ -116,9 +121,11 @@ impl<T: Writeable> Writeable for WithPart<T> {
         self.writeable.writeable_borrow()
     }
 
-    ghost marked_text = { λ s. characters-inside (part_name s.part) (T.marked s.writeable) ∙ T.marked_text s.writeable };
+    ghost marked_text = { λ s. characters-inside (part_name s.part) (T.marked s.writeable)
+        ∙ T.marked_text s.writeable };
 
-    ghost marked_nests = { λ s. Nests-inside (part_name s.part) (T.marked s.writeable) (T.marked_nests s.writeable) };
+    ghost marked_nests = { λ s.
+        Nests-inside (part_name s.part) (T.marked s.writeable) (T.marked_nests s.writeable) };
 
     ghost text_hinted = { λ s. T.text_hinted s.writeable };
 }
@@ -129,9 +136,12 @@ pub(crate) fn write_inside<T: Writeable, P: PartsWrite>(
     value: &T,
     sink: &mut P,
 ) -> Result<(), SinkError>
-    ensures ok { OnOk result (P.took_marks sink.old (inside (part_name part) (T.marked value.now)) sink.new) }
-    ensures err { OnErr result (TookPrefix P.took_marks sink.old (inside (part_name part) (T.marked value.now)) sink.new) }
-    ensures cause { HasCause (P.faults sink.old) (P.faults sink.new) (P.takes_memory sink.old) result }
+    ensures ok { OnOk result
+        (P.took_marks sink.old (inside (part_name part) (T.marked value.now)) sink.new) }
+    ensures err { OnErr result
+        (TookPrefix P.took_marks sink.old (inside (part_name part) (T.marked value.now)) sink.new) }
+    ensures cause { HasCause (P.faults sink.old) (P.faults sink.new)
+        (P.takes_memory sink.old) result }
 {
     sink.open_part(part)?;
     value.write_to_parts(sink)?;

@@ -1,6 +1,8 @@
 //! Values that may mean an error, whose text is written in its place.
 
-ghost use Rattle.std.specs.Prelude.{◌≡◌, ℕ, List, Bool, true, false, Option, Some, None, IfOk, IfSome, OnOk, OnErr, MatchOption, MatchResult, ◌⊎◌, ◌↔◌, chars, string_bytes, []};
+ghost use Rattle.std.specs.Prelude.{◌≡◌, ℕ, List, Bool, true, false, Option, Some, None, IfOk};
+ghost use Rattle.std.specs.Prelude.{IfSome, OnOk, OnErr, MatchOption, MatchResult, ◌⊎◌, ◌↔◌, chars};
+ghost use Rattle.std.specs.Prelude.{string_bytes, []};
 ghost use Rattle.std.specs.Cow.{cow_str_bytes, IsBorrowedStr};
 ghost use Rattle.std.specs.Result.{result_err};
 ghost use Rattle.writeable_core.specs.Hint.{Hinted, byte_length};
@@ -16,11 +18,11 @@ use std::borrow::CowStr;
 use std::convert::Infallible;
 use writeable_core::{LengthHint, Part, PartsWrite, Sink, SinkError, StringSink, Writeable};
 
-/// A value that means one text, and may mean an error too. The text is written in both cases: with an
-/// error it is what is to be shown in place of the missing text.
+/// A value that means one text, and may mean an error too. The text is written in both cases: with
+/// an error it is what is to be shown in place of the missing text.
 ///
-/// The outer error of a call is the sink's, the inner one is the value's. With an inner error the whole
-/// text was written all the same.
+/// The outer error of a call is the sink's, the inner one is the value's. With an inner error the
+/// whole text was written all the same.
 pub trait TryWriteable {
     /// What may be wrong with a value.
     type Error: Drop;
@@ -45,7 +47,8 @@ pub trait TryWriteable {
         ensures ok { OnOk result (S.took sink.old (text self.now) sink.new) }
         ensures inner { IfOk result (λ r. result_err r ≡ error self.now) }
         ensures err { OnErr result (TookPrefix S.took sink.old (text self.now) sink.new) }
-        ensures cause { HasCause (S.faults sink.old) (S.faults sink.new) (S.takes_memory sink.old) result };
+        ensures cause { HasCause (S.faults sink.old) (S.faults sink.new)
+            (S.takes_memory sink.old) result };
 
     /// Writes the marked text, and says what is wrong with the value.
     fn try_write_to_parts<P: PartsWrite>(
@@ -55,7 +58,8 @@ pub trait TryWriteable {
         ensures ok { OnOk result (P.took_marks sink.old (marked self.now) sink.new) }
         ensures inner { IfOk result (λ r. result_err r ≡ error self.now) }
         ensures err { OnErr result (TookPrefix P.took_marks sink.old (marked self.now) sink.new) }
-        ensures cause { HasCause (P.faults sink.old) (P.faults sink.new) (P.takes_memory sink.old) result };
+        ensures cause { HasCause (P.faults sink.old) (P.faults sink.new)
+            (P.takes_memory sink.old) result };
 
     /// Bounds of the text's length in UTF-8.
     fn writeable_length_hint(&self) -> LengthHint
@@ -64,18 +68,26 @@ pub trait TryWriteable {
     /// The text, where the value holds it in one piece, with the error if there is one.
     fn try_writeable_borrow(&self) -> Option<Result<&str, (Self::Error, &str)>>
         ensures lends { MatchOption result (lends self.now ≡ false) (λ _. lends self.now ≡ true) }
-        ensures text { IfSome result (λ r. MatchResult r (λ b. chars b.now ≡ text self.now) (λ e. chars e.1.now ≡ text self.now)) }
-        ensures error { IfSome result (λ r. MatchResult r (λ _. error self.now ≡ None) (λ e. error self.now ≡ Some e.0)) };
+        ensures text { IfSome result
+            (λ r. MatchResult r (λ b. chars b.now ≡ text self.now)
+            (λ e. chars e.1.now ≡ text self.now)) }
+        ensures error { IfSome result
+            (λ r. MatchResult r (λ _. error self.now ≡ None) (λ e. error self.now ≡ Some e.0)) };
 
-    /// The text, with the error if there is one: without a copy where the value lends it or the hint
-    /// says that it is empty.
+    /// The text, with the error if there is one: without a copy where the value lends it or the
+    /// hint says that it is empty.
     fn try_write_to_string(
         &self,
         alloc: Global,
     ) -> Result<Result<CowStr<'_>, (Self::Error, CowStr<'_>)>, AllocError>
-        ensures text { IfOk result (λ r. MatchResult r (λ s. chars (cow_str_bytes s) ≡ text self.now) (λ e. chars (cow_str_bytes e.1) ≡ text self.now)) }
-        ensures error { IfOk result (λ r. MatchResult r (λ _. error self.now ≡ None) (λ e. error self.now ≡ Some e.0)) }
-        ensures borrowed { IfOk result (λ r. MatchResult r (λ s. IsBorrowedStr s ↔ ((lends self.now ≡ true) ⊎ ((hint self.now).1 ≡ Some 0)))
+        ensures text { IfOk result
+            (λ r. MatchResult r (λ s. chars (cow_str_bytes s) ≡ text self.now)
+            (λ e. chars (cow_str_bytes e.1) ≡ text self.now)) }
+        ensures error { IfOk result
+            (λ r. MatchResult r (λ _. error self.now ≡ None) (λ e. error self.now ≡ Some e.0)) }
+        ensures borrowed { IfOk result
+            (λ r. MatchResult r
+            (λ s. IsBorrowedStr s ↔ ((lends self.now ≡ true) ⊎ ((hint self.now).1 ≡ Some 0)))
             (λ e. IsBorrowedStr e.1 ↔ ((lends self.now ≡ true) ⊎ ((hint self.now).1 ≡ Some 0)))) }
     {
         match self.try_writeable_borrow() {
@@ -209,9 +221,15 @@ impl<T: Writeable, E: Writeable + Copy> TryWriteable for Result<T, E> {
         }
     }
 
-    ghost marked_text = { elim [ Ok x ↦ T.marked_text x | Err e ↦ characters-inside error_part (E.marked e) ∙ E.marked_text e ] };
+    ghost marked_text = { elim [
+      | Ok x ↦ T.marked_text x
+      | Err e ↦ characters-inside error_part (E.marked e) ∙ E.marked_text e
+    ] };
 
-    ghost marked_nests = { elim [ Ok x ↦ T.marked_nests x | Err e ↦ Nests-inside error_part (E.marked e) (E.marked_nests e) ] };
+    ghost marked_nests = { elim [
+      | Ok x ↦ T.marked_nests x
+      | Err e ↦ Nests-inside error_part (E.marked e) (E.marked_nests e)
+    ] };
 
     ghost text_hinted = { elim [ Ok x ↦ T.text_hinted x | Err e ↦ E.text_hinted e ] };
 }

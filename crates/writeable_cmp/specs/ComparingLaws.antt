@@ -7,7 +7,8 @@ use Rattle.writeable_cmp.specs.Comparing.{Comparison, outcome, Compared}
 pub Compared-nothing : (s : Comparison) → Compared s [] s
 Compared-nothing s = record { outcome = λ more. refl; later = omega arith }
 
-pub Compared-both : (a b c : Comparison) (s t : List ℕ) → Compared a s b → Compared b t c → Compared a (s ++ t) c
+pub Compared-both : (a b c : Comparison) (s t : List ℕ) → Compared a s b → Compared b t c
+    → Compared a (s ++ t) c
 Compared-both a b c s t p q = record {
   outcome = λ more.
       ap (λ bytes. outcome a (bytes ++ more)) (encodes-append s t)

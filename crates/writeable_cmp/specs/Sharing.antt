@@ -5,7 +5,8 @@ use Rattle.std.specs.Prelude.{◌≡◌, ℕ, List, ◌++◌, take, length}
 abbrev pub BeginsWith : List ℕ → List ℕ → Type 0
 BeginsWith bytes front = take (length front) bytes ≡ front
 
--- what a contract sees of the sink that looks for its text in other bytes: the text so far, and these bytes
+-- what a contract sees of the sink that looks for its text in other bytes: the text so far, and
+-- these bytes
 pub record Sharing : Type 0 where
   pub text : List ℕ
   pub reference : List ℕ

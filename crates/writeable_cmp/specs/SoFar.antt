@@ -12,5 +12,6 @@ text_so_far reference (Copied text) = chars (string_bytes text)
 
 -- a front that is shared is a text; the other bytes don't begin with what was copied
 abbrev pub IsSoFar : List ℕ → SoFar → Type 0
-IsSoFar reference (Shared count) = (count ≤ length reference) × (is_utf8 (take count reference) ≡ true)
+IsSoFar reference (Shared count) =
+    (count ≤ length reference) × (is_utf8 (take count reference) ≡ true)
 IsSoFar reference (Copied text) = BeginsWith reference (string_bytes text) → ⊥

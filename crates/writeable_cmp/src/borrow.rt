@@ -1,6 +1,8 @@
 //! A text that is borrowed from other bytes where they begin with it.
 
-ghost use Rattle.std.specs.Prelude.{◌≡◌, ℕ, ◌≤◌, ◌↔◌, List, [], ◌∷◌, ◌++◌, ◌+◌, true, false, Some, IsTrue, IfOk, IsErrOf, OnOk, OnErr, length, take, string_bytes, encode_utf8_all};
+ghost use Rattle.std.specs.Prelude.{◌≡◌, ℕ, ◌≤◌, ◌↔◌, List, [], ◌∷◌, ◌++◌, ◌+◌, true, false, Some};
+ghost use Rattle.std.specs.Prelude.{IsTrue, IfOk, IsErrOf, OnOk, OnErr, length, take, string_bytes};
+ghost use Rattle.std.specs.Prelude.{encode_utf8_all};
 ghost use Rattle.std.specs.Cow.{cow_str_bytes, IsBorrowedStr};
 ghost use Rattle.std.specs.Str.{chars, is_utf8};
 ghost use Rattle.std.proofs.Common.{rules};
@@ -38,7 +40,8 @@ impl<'a> Model for Sharing<'a> {
 
     ghost Value = { Seen };
 
-    ghost view = { λ s. record { text = text_so_far s.reference.now s.so_far; reference = s.reference.now } };
+    ghost view = { λ s.
+        record { text = text_so_far s.reference.now s.so_far; reference = s.reference.now } };
 
     ghost invariant = { λ s. IsSoFar s.reference.now s.so_far };
 }
@@ -59,7 +62,8 @@ fn front_of(bytes: &[u8], count: usize) -> &str
 fn goes_on(bytes: &[u8], count: usize, text: &str) -> bool
     requires { count ≤ length bytes.now }
     ensures in_range { IsTrue result → count + length text.now ≤ length bytes.now }
-    ensures found { IsTrue result → take (count + length text.now) bytes.now ≡ take count bytes.now ++ text.now }
+    ensures found { IsTrue result
+        → take (count + length text.now) bytes.now ≡ take count bytes.now ++ text.now }
     ensures missing { result ≡ false → BeginsWith bytes.now (take count bytes.now ++ text.now) → ⊥ }
 {
     bytes[count..].starts_with(text.as_bytes())
@@ -87,7 +91,12 @@ impl<'a> Sharing<'a> {
 
     /// Takes a text.
     fn take(&mut self, piece: &str) -> Result<(), SinkError>
-        ensures ok { OnOk result (self.new ≡ record { text = self.old.text ++ chars piece.now; reference = self.old.reference }) }
+        ensures ok { OnOk result
+            (self.new
+            ≡ record {
+              text = self.old.text ++ chars piece.now;
+              reference = self.old.reference;
+            }) }
         ensures err { OnErr result (self.new ≡ self.old) }
         ensures never_faults { IsErrOf result SinkError.Fault → ⊥ }
     {
@@ -110,7 +119,8 @@ impl<'a> Sharing<'a> {
     /// The text, borrowed where it was found.
     fn finish(self) -> CowStr<'a>
         ensures text { chars (cow_str_bytes result) ≡ self.entry.text }
-        ensures borrowed { IsBorrowedStr result ↔ BeginsWith self.entry.reference (encode_utf8_all self.entry.text) }
+        ensures borrowed { IsBorrowedStr result
+            ↔ BeginsWith self.entry.reference (encode_utf8_all self.entry.text) }
     {
         match self.so_far {
             SoFar::Copied(text) => CowStr::Owned(text),
@@ -157,7 +167,9 @@ pub fn to_string_or_borrow<'a, W: Writeable>(
     reference_bytes: &'a [u8],
 ) -> Result<CowStr<'a>, AllocError>
     ensures text { IfOk result (λ s. chars (cow_str_bytes s) ≡ W.text writeable.now) }
-    ensures borrowed { IfOk result (λ s. IsBorrowedStr s ↔ BeginsWith reference_bytes.now (encode_utf8_all (W.text writeable.now))) }
+    ensures borrowed { IfOk result
+        (λ s. IsBorrowedStr s
+        ↔ BeginsWith reference_bytes.now (encode_utf8_all (W.text writeable.now))) }
 {
     let mut sink = Sharing::new(alloc, reference_bytes);
     writeable.write_to(&mut sink).map_err(|_| AllocError)?;

@@ -10,8 +10,8 @@ use std::cmp::Ordering;
 use std::marker::Model;
 use writeable_core::{Sink, SinkError, Writeable};
 
-/// A sink that compares what it takes with other bytes. It faults where the order is decided, so that
-/// nothing more is written; what is written all the same it takes as it is.
+/// A sink that compares what it takes with other bytes. It faults where the order is decided, so
+/// that nothing more is written; what is written all the same it takes as it is.
 #[derive(Drop)]
 struct Comparing<'a> {
     rest: &'a [u8],
@@ -50,7 +50,8 @@ impl Comparing<'_> {
     /// Compares the next bytes.
     fn compare(&mut self, bytes: &[u8]) -> Result<(), SinkError>
         ensures compared { ComparedBytes self.old bytes.now self.new }
-        ensures cause { HasCause (decisions self.old.order) (decisions self.new.order) false result }
+        ensures cause { HasCause (decisions self.old.order)
+            (decisions self.new.order) false result }
     {
         if self.order != Ordering::Equal {
             return Ok(());
@@ -96,8 +97,8 @@ impl Sink for Comparing<'_> {
     }
 }
 
-/// The byte order of the value's text in UTF-8 against other bytes. It takes no memory, and ends at the
-/// first difference.
+/// The byte order of the value's text in UTF-8 against other bytes. It takes no memory, and ends at
+/// the first difference.
 pub fn cmp_utf8<W: Writeable>(writeable: &W, other: &[u8]) -> Ordering
     ensures { result ≡ slice_cmp nat_cmp (encode_utf8_all (W.text writeable.now)) other.now }
 {

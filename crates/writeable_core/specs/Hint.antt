@@ -1,5 +1,7 @@
 -- Hints on the length of a text in UTF-8: a lower bound, and an upper bound where there is one.
-use Rattle.std.specs.Prelude.{ℕ, ◌+◌, ◌-◌, ◌*◌, ◌^◌, ◌≤◌, min, max, nat_le, if◌then◌else◌, List, length, Option, Some, None, IfSome, option_and_then, encode_utf8_all, unwrap_or}
+use Rattle.std.specs.Prelude.{ℕ, ◌+◌, ◌-◌, ◌*◌, ◌^◌, ◌≤◌, min, max, nat_le, if◌then◌else◌, List}
+use Rattle.std.specs.Prelude.{length, Option, Some, None, IfSome, option_and_then, encode_utf8_all}
+use Rattle.std.specs.Prelude.{unwrap_or}
 use Rattle.writeable_core.specs.declared.length_hint.LengthHint.{LengthHint}
 
 -- how many bytes a text has in UTF-8

@@ -36,7 +36,8 @@ inside part marks = Open part ∷ (marks ++ Close ∷ [])
 pub data Nests : List Mark → Type 0 where
   nothing : Nests []
   character : (c : ℕ) (marks : List Mark) → Nests marks → Nests (Character c ∷ marks)
-  part : (name : PartName) (inner marks : List Mark) → Nests inner → Nests marks → Nests (Open name ∷ (inner ++ Close ∷ marks))
+  part : (name : PartName) (inner marks : List Mark) → Nests inner → Nests marks
+      → Nests (Open name ∷ (inner ++ Close ∷ marks))
 
 -- how many marks open a part, and how many close one
 abbrev pub openings : List Mark → ℕ

@@ -1,7 +1,9 @@
 -- Marked texts one after another, and inside one part.
 use Rattle.std.specs.Prelude.{◌≡◌, ℕ, ◌+◌, List, [], ◌∷◌, ◌++◌, Option, Some, None}
 use Rattle.std.proofs.Common.{refl, sym, ap, ◌∙◌, append_assoc, append-nil, subst, arith}
-use Rattle.writeable_core.specs.Marks.{Mark, Character, Open, Close, PartName, plain, characters, inside, Nests, nothing, character, part, openings, closings, Opens}
+use Rattle.writeable_core.specs.Marks.{Mark, Character, Open, Close, PartName, plain, characters}
+use Rattle.writeable_core.specs.Marks.{inside, Nests, nothing, character, part, openings, closings}
+use Rattle.writeable_core.specs.Marks.{Opens}
 use Rattle.writeable_core.specs.Sink.{TookPrefix}
 use Rattle.writeable_core.specs.SinkLaws.{front_of_longer, front_after}
 
@@ -16,7 +18,8 @@ characters-append (Open _ ∷ a) b = characters-append a b
 characters-append (Close ∷ a) b = characters-append a b
 
 -- two marked texts, and the texts that they are of
-pub characters-both : {s t : List ℕ} (a b : List Mark) → characters a ≡ s → characters b ≡ t → characters (a ++ b) ≡ s ++ t
+pub characters-both : {s t : List ℕ} (a b : List Mark) → characters a ≡ s → characters b ≡ t
+    → characters (a ++ b) ≡ s ++ t
 characters-both a b p q = let both = characters-append a b in cc
 
 pub plain-append : (s t : List ℕ) → plain (s ++ t) ≡ plain s ++ plain t
@@ -49,7 +52,8 @@ Nests-plain (c ∷ text) = character c (plain text) (Nests-plain text)
 
 pub Nests-append : (a b : List Mark) → Nests a → Nests b → Nests (a ++ b)
 Nests-append [] b nothing nb = nb
-Nests-append (Character c ∷ _) b (character _ marks na) nb = character c (marks ++ b) (Nests-append marks b na nb)
+Nests-append (Character c ∷ _) b (character _ marks na) nb =
+    character c (marks ++ b) (Nests-append marks b na nb)
 Nests-append (Open name ∷ _) b (part _ inner marks ni nm) nb =
     subst (λ ms. Nests (Open name ∷ ms)) (sym (append_assoc inner (Close ∷ marks) b))
     (part name inner (marks ++ b) ni (Nests-append marks b nm nb))
@@ -59,7 +63,8 @@ Nests-append (Close ∷ _) b n nb = elim n [ ]
 pub Nests-inside : (name : PartName) (marks : List Mark) → Nests marks → Nests (inside name marks)
 Nests-inside name marks nests = part name marks [] nests nothing
 
-pub characters-inside : (name : PartName) (marks : List Mark) → characters (inside name marks) ≡ characters marks
+pub characters-inside : (name : PartName) (marks : List Mark)
+    → characters (inside name marks) ≡ characters marks
 characters-inside name marks = characters-append marks (Close ∷ []) ∙ append-nil (characters marks)
 
 -- where marks nest, as many close as open
@@ -75,7 +80,9 @@ Nests-balanced (Open name ∷ _) (part _ inner marks ni nm) =
 Nests-balanced (Close ∷ _) n = elim n [ ]
 
 -- a front of a text is a front of the marked text of its characters
-pub front_of_marks : {S : Type 0} (took : S → List ℕ → S → Type 0) (took_marks : S → List Mark → S → Type 0) (a b : S) (text : List ℕ)
+pub front_of_marks :
+    {S : Type 0} (took : S → List ℕ → S → Type 0) (took_marks : S → List Mark → S → Type 0)
+    (a b : S) (text : List ℕ)
     → ((a b : S) (t : List ℕ) → took a t b → took_marks a (plain t) b)
     → TookPrefix took a text b → TookPrefix took_marks a (plain text) b
 front_of_marks took took_marks a b text both p = record {
@@ -87,28 +94,37 @@ front_of_marks took took_marks a b text both p = record {
 
 -- ---- a marked text that is written inside one part: its opening mark, the text, its closing mark
 
-module _ {S : Type 0} (took : S → List Mark → S → Type 0) (both : (a b c : S) (s t : List Mark) → took a s b → took b t c → took a (s ++ t) c) where
+module _ {S : Type 0} (took : S → List Mark → S → Type 0)
+    (both : (a b c : S) (s t : List Mark) → took a s b → took b t c → took a (s ++ t) c) where
   pub taken_inside : (a b c d : S) (name : PartName) (marks : List Mark)
-      → took a (Open name ∷ []) b → took b marks c → took c (Close ∷ []) d → took a (inside name marks) d
-  taken_inside a b c d name marks p q r = both a b d (Open name ∷ []) (marks ++ Close ∷ []) p (both b c d marks (Close ∷ []) q r)
+      → took a (Open name ∷ []) b → took b marks c → took c (Close ∷ []) d
+      → took a (inside name marks) d
+  taken_inside a b c d name marks p q r =
+      both a b d (Open name ∷ []) (marks ++ Close ∷ []) p (both b c d marks (Close ∷ []) q r)
 
   -- a front of what stands inside
   pub front_inside : (a b c : S) (name : PartName) (marks : List Mark)
-      → took a (Open name ∷ []) b → TookPrefix took b marks c → TookPrefix took a (inside name marks) c
-  front_inside a b c name marks p q = front_after (Open name ∷ []) (marks ++ Close ∷ []) both p (front_of_longer marks (Close ∷ []) q)
+      → took a (Open name ∷ []) b → TookPrefix took b marks c
+      → TookPrefix took a (inside name marks) c
+  front_inside a b c name marks p q =
+      front_after (Open name ∷ []) (marks ++ Close ∷ []) both p
+      (front_of_longer marks (Close ∷ []) q)
 
   -- all but the closing mark
   pub front_unclosed : (a b c d : S) (name : PartName) (marks : List Mark)
-      → took a (Open name ∷ []) b → took b marks c → took c [] d → TookPrefix took a (inside name marks) d
+      → took a (Open name ∷ []) b → took b marks c → took c [] d
+      → TookPrefix took a (inside name marks) d
   front_unclosed a b c d name marks p q r =
       front_after (Open name ∷ []) (marks ++ Close ∷ []) both p
-      (front_after marks (Close ∷ []) both q record { front = []; rest = Close ∷ []; parts = refl; taken = r })
+      (front_after marks (Close ∷ []) both q
+      record { front = []; rest = Close ∷ []; parts = refl; taken = r })
 
 still_open-none : (now : Option ℕ) (marks : List Mark) → Opens None marks now → now ≡ Some 0 → ⊥
 still_open-none None marks p e = cc
 still_open-none (Some _) marks p e = p
 
-still_open-some : (n m : ℕ) (now : Option ℕ) (marks : List Mark) → n + 1 ≡ m + 0 → openings marks ≡ closings marks → Opens (Some m) marks now → now ≡ Some 0 → ⊥
+still_open-some : (n m : ℕ) (now : Option ℕ) (marks : List Mark) → n + 1 ≡ m + 0
+    → openings marks ≡ closings marks → Opens (Some m) marks now → now ≡ Some 0 → ⊥
 still_open-some n m None marks o balanced p e = p
 still_open-some n m (Some k) marks o balanced p e = let none : k ≡ 0 = cc in omega arith
 
@@ -116,6 +132,7 @@ still_open-some n m (Some k) marks o balanced p e = let none : k ≡ 0 = cc in o
 pub still_open : (before one now : Option ℕ) (name : PartName) (marks : List Mark)
     → Opens before (Open name ∷ []) one → Nests marks → Opens one marks now → now ≡ Some 0 → ⊥
 still_open None None now name marks o nests p e = still_open-none now marks p e
-still_open (Some n) (Some m) now name marks o nests p e = still_open-some n m now marks o (Nests-balanced marks nests) p e
+still_open (Some n) (Some m) now name marks o nests p e =
+    still_open-some n m now marks o (Nests-balanced marks nests) p e
 still_open None (Some _) now name marks o nests p e = o
 still_open (Some _) None now name marks o nests p e = o

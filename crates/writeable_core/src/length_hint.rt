@@ -1,10 +1,11 @@
 ghost use Rattle.std.specs.Prelude.{◌≡◌, ℕ, ◌↔◌, Some, IsTrue, chars};
-ghost use Rattle.writeable_core.specs.Hint.{undefined, exact, at_least, at_most, between, hint_capacity, text_hint};
+ghost use Rattle.writeable_core.specs.Hint.{undefined, exact, at_least, at_most, between};
+ghost use Rattle.writeable_core.specs.Hint.{hint_capacity, text_hint};
 
 /// A lower bound of a text's length in UTF-8, and an upper bound where there is one.
 ///
-/// The operators saturate the lower bound, and give no upper bound where one is missing or where the
-/// result passes the greatest `usize`.
+/// The operators saturate the lower bound, and give no upper bound where one is missing or where
+/// the result passes the greatest `usize`.
 #[derive(Clone, Copy, Debug, PartialEq, Eq)]
 pub struct LengthHint(pub usize, pub Option<usize>);
 

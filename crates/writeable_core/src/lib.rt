@@ -10,12 +10,15 @@
 //! assert_eq!(sink.as_str(), "page 7");
 //! ```
 //!
-//! - `writeable`: the trait [`Writeable`], of a text with a hint on its length and marks of its parts.
+//! - `writeable`: the trait [`Writeable`], of a text with a hint on its length and marks of its
+//!   parts.
 //! - `length_hint`, `ops`: [`LengthHint`] and its operators.
-//! - `impls`: the types of std that are writeable, references, boxes, and a text of one of two types.
+//! - `impls`: the types of std that are writeable, references, boxes, and a text of one of two
+//!   types.
 //! - `part`: [`Part`], and [`PartsWrite`], a sink that takes the marks of parts too.
 //! - `sink`, `string_sink`: the trait [`Sink`], and [`StringSink`], which holds a text in memory.
-//! - `source`, `slice_source`: the trait [`Source`], and [`SliceSource`], which gives the bytes of a slice.
+//! - `source`, `slice_source`: the trait [`Source`], and [`SliceSource`], which gives the bytes of
+//!   a slice.
 //! - `text`: [`OwnedText`], [`TextRow`] and [`TextList`], texts that structs own.
 #![tactic(auto)]
 

@@ -1,4 +1,5 @@
-ghost use Rattle.std.specs.Prelude.{◌≡◌, ℕ, ◌+◌, ◌≤◌, Bool, List, [], ◌∷◌, ◌++◌, Option, Some, OnOk, OnErr};
+ghost use Rattle.std.specs.Prelude.{◌≡◌, ℕ, ◌+◌, ◌≤◌, Bool, List, [], ◌∷◌, ◌++◌, Option, Some};
+ghost use Rattle.std.specs.Prelude.{OnOk, OnErr};
 ghost use Rattle.std.specs.Str.{chars};
 ghost use Rattle.writeable_core.specs.Sink.{TookPrefix, HasCause};
 ghost use Rattle.writeable_core.specs.SinkLaws.{front_of_longer, front_after};
@@ -47,27 +48,33 @@ pub trait Sink {
     fn push_str(&mut self, piece: &str) -> Result<(), SinkError>
         ensures ok { OnOk result (took self.old (chars piece.now) self.new) }
         ensures err { OnErr result (TookPrefix took self.old (chars piece.now) self.new) }
-        ensures cause { HasCause (faults self.old) (faults self.new) (takes_memory self.old) result };
+        ensures cause { HasCause (faults self.old) (faults self.new)
+            (takes_memory self.old) result };
 
     /// Takes a character.
     fn push_char(&mut self, c: char) -> Result<(), SinkError>
         ensures ok { OnOk result (took self.old (c ∷ []) self.new) }
         ensures err { OnErr result (TookPrefix took self.old (c ∷ []) self.new) }
-        ensures cause { HasCause (faults self.old) (faults self.new) (takes_memory self.old) result };
+        ensures cause { HasCause (faults self.old) (faults self.new)
+            (takes_memory self.old) result };
 
     ghost took_nothing: { (s : Self) → took s [] s };
 
-    ghost took_both: { (a b c : Self) (s t : List ℕ) → took a s b → took b t c → took a (s ++ t) c };
+    ghost took_both: { (a b c : Self) (s t : List ℕ) → took a s b → took b t c
+        → took a (s ++ t) c };
 
-    ghost took_held: { (a b : Self) (t h : List ℕ) → took a t b → held a ≡ Some h → held b ≡ Some (h ++ t) };
+    ghost took_held: { (a b : Self) (t h : List ℕ) → took a t b → held a ≡ Some h
+        → held b ≡ Some (h ++ t) };
 
     ghost took_faults: { (a b : Self) (t : List ℕ) → took a t b → faults a ≤ faults b };
 
     ghost took_memory: { (a b : Self) (t : List ℕ) → took a t b → takes_memory b ≡ takes_memory a };
 
     /// A front of a text is a front of what begins with it.
-    ghost front_longer: { (a b : Self) (s t : List ℕ) → TookPrefix took a s b → TookPrefix took a (s ++ t) b } = { λ a b s t p. front_of_longer s t p };
+    ghost front_longer: { (a b : Self) (s t : List ℕ) → TookPrefix took a s b
+        → TookPrefix took a (s ++ t) b } = { λ a b s t p. front_of_longer s t p };
 
     /// A text, and then a front of another.
-    ghost front_behind: { (a b c : Self) (s t : List ℕ) → took a s b → TookPrefix took b t c → TookPrefix took a (s ++ t) c } = { λ a b c s t p q. front_after s t took_both p q };
+    ghost front_behind: { (a b c : Self) (s t : List ℕ) → took a s b → TookPrefix took b t c
+        → TookPrefix took a (s ++ t) c } = { λ a b c s t p q. front_after s t took_both p q };
 }

@@ -1,4 +1,5 @@
-ghost use Rattle.std.specs.Prelude.{◌≡◌, ℕ, ◌≤◌, ◌==◌, ◌<◌, Bool, false, List, length, take, Some, IsOk, IfOk, OnOk, OnErr};
+ghost use Rattle.std.specs.Prelude.{◌≡◌, ℕ, ◌≤◌, ◌==◌, ◌<◌, Bool, false, List, length, take, Some};
+ghost use Rattle.std.specs.Prelude.{IsOk, IfOk, OnOk, OnErr};
 ghost use Rattle.std.specs.Io.KnownBytes.{Consumes, Keeps, IsAtEnd};
 ghost use Rattle.writeable_core.specs.Sink.{Rose};
 ghost use Rattle.writeable_core.specs.SliceSource.{Unread};
@@ -42,8 +43,10 @@ impl Source for SliceSource<'_> {
 
     fn read(&mut self, buffer: &mut [u8]) -> Result<usize, SourceFault>
         ensures count { IfOk result (λ k. k ≤ length buffer.old) }
-        ensures bytes { IfOk result (λ k. Consumes (Some self.old.bytes) (Some self.new.bytes) (take k buffer.new)) }
-        ensures end { IfOk result (λ k. 0 < length buffer.old → k ≡ 0 → IsAtEnd (Some self.new.bytes)) }
+        ensures bytes { IfOk result
+            (λ k. Consumes (Some self.old.bytes) (Some self.new.bytes) (take k buffer.new)) }
+        ensures end { IfOk result
+            (λ k. 0 < length buffer.old → k ≡ 0 → IsAtEnd (Some self.new.bytes)) }
         ensures mark { IfOk result (λ k. 0 < length buffer.old → self.new.ended ≡ (k == 0)) }
         ensures empty { length buffer.old ≡ 0 → self.new.ended ≡ self.old.ended }
         ensures no_fault { OnOk result (◌≡◌ {A = ℕ} 0 0) }

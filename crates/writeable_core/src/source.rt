@@ -1,4 +1,5 @@
-ghost use Rattle.std.specs.Prelude.{◌≡◌, ℕ, ◌<◌, ◌≤◌, ◌==◌, Bool, List, length, take, Option, IfOk, OnOk, OnErr};
+ghost use Rattle.std.specs.Prelude.{◌≡◌, ℕ, ◌<◌, ◌≤◌, ◌==◌, Bool, List, length, take, Option, IfOk};
+ghost use Rattle.std.specs.Prelude.{OnOk, OnErr};
 ghost use Rattle.std.specs.Io.KnownBytes.{Consumes, Keeps, IsAtEnd};
 ghost use Rattle.writeable_core.specs.Sink.{Rose};
 
@@ -34,7 +35,8 @@ pub trait Source {
     /// has no room or nothing is left. A call that fails gives none.
     fn read(&mut self, buffer: &mut [u8]) -> Result<usize, SourceFault>
         ensures count { IfOk result (λ k. k ≤ length buffer.old) }
-        ensures bytes { IfOk result (λ k. Consumes (left self.old) (left self.new) (take k buffer.new)) }
+        ensures bytes { IfOk result
+            (λ k. Consumes (left self.old) (left self.new) (take k buffer.new)) }
         ensures end { IfOk result (λ k. 0 < length buffer.old → k ≡ 0 → IsAtEnd (left self.new)) }
         ensures mark { IfOk result (λ k. 0 < length buffer.old → ended self.new ≡ (k == 0)) }
         ensures empty { length buffer.old ≡ 0 → ended self.new ≡ ended self.old }

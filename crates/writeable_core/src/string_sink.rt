@@ -1,4 +1,5 @@
-ghost use Rattle.std.specs.Prelude.{◌≡◌, ℕ, ◌≤◌, List, [], ◌∷◌, ◌++◌, Bool, true, Some, IfOk, IsErrOf, OnOk, OnErr, string_bytes};
+ghost use Rattle.std.specs.Prelude.{◌≡◌, ℕ, ◌≤◌, List, [], ◌∷◌, ◌++◌, Bool, true, Some, IfOk};
+ghost use Rattle.std.specs.Prelude.{IsErrOf, OnOk, OnErr, string_bytes};
 ghost use Rattle.std.specs.Str.{chars};
 ghost use Rattle.std.proofs.Common.{rules};
 ghost use Rattle.writeable_core.specs.Sink.{TookPrefix, HasCause};
@@ -79,7 +80,8 @@ impl Sink for StringSink {
     #[tactic(auto, using(crate::specs::TextLaws::pushed_str))]
     fn push_str(&mut self, piece: &str) -> Result<(), SinkError>
         ensures ok { OnOk result (self.new ≡ self.old ++ chars piece.now) }
-        ensures err { OnErr result (TookPrefix (λ a t b. b ≡ a ++ t) self.old (chars piece.now) self.new) }
+        ensures err { OnErr result
+            (TookPrefix (λ a t b. b ≡ a ++ t) self.old (chars piece.now) self.new) }
         ensures kept { OnErr result (self.new ≡ self.old) }
         ensures cause { HasCause 0 0 true result }
         ensures never_faults { IsErrOf result SinkError.Fault → ⊥ }

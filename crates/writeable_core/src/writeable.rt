@@ -1,4 +1,5 @@
-ghost use Rattle.std.specs.Prelude.{◌≡◌, ℕ, List, Bool, true, false, Some, None, IfOk, OnOk, OnErr, MatchOption, ◌⊎◌, ◌↔◌, chars, IfSome};
+ghost use Rattle.std.specs.Prelude.{◌≡◌, ℕ, List, Bool, true, false, Some, None, IfOk, OnOk, OnErr};
+ghost use Rattle.std.specs.Prelude.{MatchOption, ◌⊎◌, ◌↔◌, chars, IfSome};
 ghost use Rattle.std.specs.Cow.{cow_str_bytes, IsBorrowedStr};
 ghost use Rattle.writeable_core.specs.Hint.{Hinted, byte_length};
 ghost use Rattle.writeable_core.specs.Marks.{Mark, Nests, characters};
@@ -11,8 +12,8 @@ use std::borrow::CowStr;
 
 /// A value that means one text, and writes it without making it in memory first.
 ///
-/// It also means one marked text, in which parts of the text carry a mark: the same characters, with
-/// marks that nest.
+/// It also means one marked text, in which parts of the text carry a mark: the same characters,
+/// with marks that nest.
 pub trait Writeable {
     /// The text.
     ghost text: { Self → List ℕ };
@@ -30,13 +31,15 @@ pub trait Writeable {
     fn write_to<S: Sink>(&self, sink: &mut S) -> Result<(), SinkError>
         ensures ok { OnOk result (S.took sink.old (text self.now) sink.new) }
         ensures err { OnErr result (TookPrefix S.took sink.old (text self.now) sink.new) }
-        ensures cause { HasCause (S.faults sink.old) (S.faults sink.new) (S.takes_memory sink.old) result };
+        ensures cause { HasCause (S.faults sink.old) (S.faults sink.new)
+            (S.takes_memory sink.old) result };
 
     /// Writes the marked text. The causes of an error are those of the sink.
     fn write_to_parts<P: PartsWrite>(&self, sink: &mut P) -> Result<(), SinkError>
         ensures ok { OnOk result (P.took_marks sink.old (marked self.now) sink.new) }
         ensures err { OnErr result (TookPrefix P.took_marks sink.old (marked self.now) sink.new) }
-        ensures cause { HasCause (P.faults sink.old) (P.faults sink.new) (P.takes_memory sink.old) result };
+        ensures cause { HasCause (P.faults sink.old) (P.faults sink.new)
+            (P.takes_memory sink.old) result };
 
     /// Bounds of the text's length in UTF-8.
     fn writeable_length_hint(&self) -> LengthHint
@@ -50,7 +53,8 @@ pub trait Writeable {
     /// The text, without a copy where the value lends it or the hint says that it is empty.
     fn write_to_string(&self, alloc: Global) -> Result<CowStr<'_>, AllocError>
         ensures text { IfOk result (λ s. chars (cow_str_bytes s) ≡ text self.now) }
-        ensures borrowed { IfOk result (λ s. IsBorrowedStr s ↔ ((lends self.now ≡ true) ⊎ ((hint self.now).1 ≡ Some 0))) }
+        ensures borrowed { IfOk result
+            (λ s. IsBorrowedStr s ↔ ((lends self.now ≡ true) ⊎ ((hint self.now).1 ≡ Some 0))) }
     {
         if let Some(text) = self.writeable_borrow() {
             return Ok(CowStr::Borrowed(text));

@@ -1,5 +1,6 @@
 -- The front of a text that ends another text: where a match that is open may go on.
-use Rattle.std.specs.Prelude.{◌≡◌, ℕ, ◌-◌, ◌≤◌, zero, suc, Bool, if◌then◌else◌, List, ◌++◌, length, take, nat_eq}
+use Rattle.std.specs.Prelude.{◌≡◌, ℕ, ◌-◌, ◌≤◌, zero, suc, Bool, if◌then◌else◌, List, ◌++◌, length}
+use Rattle.std.specs.Prelude.{take, nat_eq}
 use Rattle.std.specs.List.{ends_with}
 
 -- a text ends with a part
@@ -7,7 +8,8 @@ pub record Ends (part text : List ℕ) : Type 0 where
   pub before : List ℕ
   pub parts : before ++ part ≡ text
 
--- The first j characters of p are the longest proper front of p that ends w. For an empty p, j is 0.
+-- The first j characters of p are the longest proper front of p that ends w. For an empty p, j is
+-- 0.
 pub record IsOverlap (p w : List ℕ) (j : ℕ) : Type 0 where
   pub proper : j ≤ length p - 1
   pub ends : Ends (take j p) w

@@ -1,7 +1,10 @@
 -- Fronts of a text that end another.
 use Rattle.std.specs.Prelude.{nat_eq}
 use Rattle.std.specs.List.{ends_with}
-use Rattle.std.proofs.Common.{◌≡◌, ℕ, ◌+◌, ◌-◌, ◌≤◌, ◌<◌, zero, suc, Bool, true, false, List, [], ◌∷◌, ◌++◌, length, take, drop, get_or, if◌then◌else◌, refl, sym, ap, ◌∙◌, subst, arith, append-nil, append_assoc, length-append, ◌⊎◌, inl, inr}
+use Rattle.std.proofs.Common.{◌≡◌, ℕ, ◌+◌, ◌-◌, ◌≤◌, ◌<◌, zero, suc, Bool, true, false, List, []}
+use Rattle.std.proofs.Common.{◌∷◌, ◌++◌, length, take, drop, get_or, if◌then◌else◌, refl, sym, ap}
+use Rattle.std.proofs.Common.{◌∙◌, subst, arith, append-nil, append_assoc, length-append, ◌⊎◌, inl}
+use Rattle.std.proofs.Common.{inr}
 use Rattle.std.proofs.lemmas.List.{drop-append-le, length-take-le, take_more, same_from_push}
 use Rattle.std.proofs.lemmas.Slice.Eq.{ends_is}
 use Rattle.std.proofs.lemmas.Bool.{cases_lt}
@@ -37,7 +40,8 @@ ends_shorter {x} {y} {w} p q le =
     omega (arith, ap length same, length-append p.before x, length-append q.before y) in
     record {
       before = drop (length q.before) p.before;
-      parts = sym (drop-append-le (length q.before) p.before x within) ∙ ap (drop (length q.before)) same ∙ drop-append_seam q.before y;
+      parts = sym (drop-append-le (length q.before) p.before x within)
+          ∙ ap (drop (length q.before)) same ∙ drop-append_seam q.before y;
     }
 
 -- one character more on both
@@ -58,7 +62,8 @@ ends_less {x} {w} c d p =
 greatest_here : (test : ℕ → Bool) (n : ℕ) → test (suc n) ≡ true → greatest test (suc n) ≡ suc n
 greatest_here test n is = ap (λ b. if b then suc n else greatest test n) is
 
-greatest_below : (test : ℕ → Bool) (n : ℕ) → test (suc n) ≡ false → greatest test (suc n) ≡ greatest test n
+greatest_below : (test : ℕ → Bool) (n : ℕ) → test (suc n) ≡ false
+    → greatest test (suc n) ≡ greatest test n
 greatest_below test n is = ap (λ b. if b then suc n else greatest test n) is
 
 greatest_le : (test : ℕ → Bool) (n : ℕ) → greatest test n ≤ n
@@ -71,7 +76,8 @@ greatest_le test (suc n) = cases (greatest_le test n) (test (suc n)) refl where
 greatest_passes : (test : ℕ → Bool) (n : ℕ) → test 0 ≡ true → test (greatest test n) ≡ true
 greatest_passes test zero none = none
 greatest_passes test (suc n) none = cases (greatest_passes test n none) (test (suc n)) refl where
-  cases : test (greatest test n) ≡ true → (b : Bool) → test (suc n) ≡ b → test (greatest test (suc n)) ≡ true
+  cases : test (greatest test n) ≡ true → (b : Bool) → test (suc n) ≡ b
+      → test (greatest test (suc n)) ≡ true
   cases before true is = ap test (greatest_here test n is) ∙ is
   cases before false is = ap test (greatest_below test n is) ∙ before
 
@@ -80,9 +86,11 @@ greatest_longest test zero i le passes = omega arith
 greatest_longest test (suc n) i le passes =
     cases (λ less. greatest_longest test n i less passes) (test (suc n)) refl (cases_lt n i)
   where
-    cases : (i ≤ n → i ≤ greatest test n) → (b : Bool) → test (suc n) ≡ b → (n < i) ⊎ (i ≤ n) → i ≤ greatest test (suc n)
+    cases : (i ≤ n → i ≤ greatest test n) → (b : Bool) → test (suc n) ≡ b → (n < i) ⊎ (i ≤ n)
+        → i ≤ greatest test (suc n)
     cases before true is _ = omega (arith, greatest_here test n is)
-    cases before false is (inr less) = let within = before less in omega (arith, greatest_below test n is)
+    cases before false is (inr less) = let within = before less in
+        omega (arith, greatest_below test n is)
     cases before false is (inl last) =
         let same : i ≡ suc n = omega arith in
         let e : true ≡ false = sym passes ∙ ap test same ∙ is in
@@ -95,7 +103,8 @@ ends_tested w part e = record {
 }
 
 tests_ends : (w part : List ℕ) → Ends part w → ends_with nat_eq w part ≡ true
-tests_ends w part p = (ends_is Decides-eqb w part (ends_with nat_eq w part) refl).1 p.before (sym p.parts)
+tests_ends w part p =
+    (ends_is Decides-eqb w part (ends_with nat_eq w part) refl).1 p.before (sym p.parts)
 
 -- `overlap` is the length of the longest one
 pub overlap_is : (p w : List ℕ) → IsOverlap p w (overlap p w)
@@ -103,8 +112,11 @@ overlap_is p w =
     let test = λ (j : ℕ). ends_with nat_eq w (take j p) in
     record {
       proper = greatest_le test (length p - 1);
-      ends = ends_tested w (take (overlap p w) p) (greatest_passes test (length p - 1) (tests_ends w [] (ends_nothing w)));
-      longest = λ i le ends. greatest_longest test (length p - 1) i le (tests_ends w (take i p) ends);
+      ends =
+          ends_tested w (take (overlap p w) p)
+          (greatest_passes test (length p - 1) (tests_ends w [] (ends_nothing w)));
+      longest =
+          λ i le ends. greatest_longest test (length p - 1) i le (tests_ends w (take i p) ends);
     }
 
 -- and there is one such length
@@ -123,16 +135,24 @@ overlap_front p k le = record {
   proper = le;
   ends = ends_whole (take k p);
   longest = λ i proper ends.
-      omega (arith, ends_length ends, length-take-le i p (omega arith), length-take-le k p (omega arith));
+      omega (
+        arith,
+        ends_length ends,
+        length-take-le i p (omega arith),
+        length-take-le k p (omega arith),
+      );
 }
 
 -- a front of p with a character more is a front with one more
-pub front_more : (p : List ℕ) (i : ℕ) → suc i ≤ length p → take (suc i) p ≡ take i p ++ get_or p i 0 ∷ []
-front_more p i le = let one : suc i ≡ i + 1 = omega arith in ap (λ n. take n p) one ∙ take_more p i 0 (omega arith)
+pub front_more : (p : List ℕ) (i : ℕ) → suc i ≤ length p
+    → take (suc i) p ≡ take i p ++ get_or p i 0 ∷ []
+front_more p i le = let one : suc i ≡ i + 1 = omega arith in
+    ap (λ n. take n p) one ∙ take_more p i 0 (omega arith)
 
 -- The longest front that ends a text and a character is one that ends the longest front before, and
 -- the character.
-pub overlap_more : (p w : List ℕ) (k c j : ℕ) → IsOverlap p w k → IsOverlap p (take k p ++ c ∷ []) j → IsOverlap p (w ++ c ∷ []) j
+pub overlap_more : (p w : List ℕ) (k c j : ℕ) → IsOverlap p w k → IsOverlap p (take k p ++ c ∷ []) j
+    → IsOverlap p (w ++ c ∷ []) j
 overlap_more p w k c j was now = record {
   proper = now.proper;
   ends = ends_both now.ends (ends_more c was.ends);
@@ -144,13 +164,21 @@ overlap_more p w k c j was now = record {
       let last = front_more p i (omega arith) in
       let less = ends_less (get_or p i 0) c (subst (λ l. Ends l (w ++ c ∷ [])) last ends) in
       let within = was.longest i (omega arith) less.0 in
-      let inner = ends_shorter less.0 was.ends (omega (arith, length-take-le i p (omega arith), length-take-le k p (omega (arith, was.proper)))) in
+      let inner =
+      ends_shorter less.0 was.ends
+      (omega (
+        arith,
+        length-take-le i p (omega arith),
+        length-take-le k p (omega (arith, was.proper)),
+      )) in
       let more = ends_more c inner in
       now.longest (suc i) le
-      (subst (λ l. Ends l (take k p ++ c ∷ [])) (ap (λ d. take i p ++ d ∷ []) (sym less.1) ∙ sym last) more)
+      (subst (λ l. Ends l (take k p ++ c ∷ []))
+      (ap (λ d. take i p ++ d ∷ []) (sym less.1) ∙ sym last) more)
 
 -- where p ends a text and a character, the longest front before and the character are p
-pub overlap_whole : (p w : List ℕ) (k c : ℕ) → 1 ≤ length p → IsOverlap p w k → Ends p (w ++ c ∷ []) → take k p ++ c ∷ [] ≡ p
+pub overlap_whole : (p w : List ℕ) (k c : ℕ) → 1 ≤ length p → IsOverlap p w k → Ends p (w ++ c ∷ [])
+    → take k p ++ c ∷ [] ≡ p
 overlap_whole p w k c some was ends =
     let n = length p - 1 in
     let one : length p ≡ n + 1 = omega arith in

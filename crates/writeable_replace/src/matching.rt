@@ -1,9 +1,12 @@
 //! How far a needle is matched, from one character of the text to the next.
 
-ghost use Rattle.std.specs.Prelude.{◌≡◌, ℕ, ◌<◌, ◌≤◌, zero, List, [], ◌∷◌, length, chars, IfOk, IfErr, MatchOption, OnOk, OnErr, take, IsCharBoundary, IsUtf8, slice_index, ◌≢◌};
+ghost use Rattle.std.specs.Prelude.{◌≡◌, ℕ, ◌<◌, ◌≤◌, zero, List, [], ◌∷◌, length, chars, IfOk};
+ghost use Rattle.std.specs.Prelude.{IfErr, MatchOption, OnOk, OnErr, take, IsCharBoundary, IsUtf8};
+ghost use Rattle.std.specs.Prelude.{slice_index, ◌≢◌};
 ghost use Rattle.writeable_core.specs.Sink.{TookPrefix, HasCause};
 ghost use Rattle.writeable_replace.specs.Passed.{Passed, Refused};
-ghost use Rattle.writeable_replace.specs.Position.{position, IsPosition, IsTried, GoesOn, Border, Resumed, IsFree};
+ghost use Rattle.writeable_replace.specs.Position.{position, IsPosition, IsTried, GoesOn, Border};
+ghost use Rattle.writeable_replace.specs.Position.{Resumed, IsFree};
 
 use writeable_core::{Sink, SinkError, Writeable};
 
@@ -22,11 +25,12 @@ fn overlap_of(text: &str) -> usize
     0
 }
 
-/// How many bytes of the needle stay matched where a character follows `matched` of them, if the needle
-/// goes on with it behind any.
+/// How many bytes of the needle stay matched where a character follows `matched` of them, if the
+/// needle goes on with it behind any.
 fn resume(needle: &str, matched: usize, c: char) -> Option<usize>
     requires { IsPosition needle.now matched }
-    ensures { MatchOption result ((IsTried (chars needle.now) (position needle.now matched) c 0) × (GoesOn (chars needle.now) 0 c → ⊥)) (λ kept. Resumed needle.now matched c kept) }
+    ensures { MatchOption result ((IsTried (chars needle.now) (position needle.now matched) c 0)
+        × (GoesOn (chars needle.now) 0 c → ⊥)) (λ kept. Resumed needle.now matched c kept) }
 {
     let mut buffer = [0; 4];
     let next = c.encode_utf8(&mut buffer).as_bytes();
@@ -47,7 +51,8 @@ pub(crate) fn pass_front<S: Sink>(text: &str, count: usize, sink: &mut S) -> Res
     requires { IsCharBoundary text.now count }
     ensures ok { OnOk result (S.took sink.old (chars (take count text.now)) sink.new) }
     ensures err { OnErr result (TookPrefix S.took sink.old (chars (take count text.now)) sink.new) }
-    ensures cause { HasCause (S.faults sink.old) (S.faults sink.new) (S.takes_memory sink.old) result }
+    ensures cause { HasCause (S.faults sink.old) (S.faults sink.new)
+        (S.takes_memory sink.old) result }
 {
     if count == 0 {
         return Ok(());
@@ -55,8 +60,8 @@ pub(crate) fn pass_front<S: Sink>(text: &str, count: usize, sink: &mut S) -> Res
     sink.push_str(&text[..count])
 }
 
-/// Takes a character behind `matched` bytes of the needle: passes on what can't belong to an occurrence
-/// any more, or the replacement, and says how much is matched then.
+/// Takes a character behind `matched` bytes of the needle: passes on what can't belong to an
+/// occurrence any more, or the replacement, and says how much is matched then.
 pub(crate) fn take_char<C: Writeable, S: Sink>(
     needle: &str,
     replacement: &C,
@@ -66,8 +71,12 @@ pub(crate) fn take_char<C: Writeable, S: Sink>(
 ) -> Result<usize, SinkError>
     requires { IsPosition needle.now matched }
     ensures matched { IfOk result (λ m. IsPosition needle.now m) }
-    ensures ok { IfOk result (λ m. Passed S.took (chars needle.now) (C.text replacement.now) (position needle.now matched) sink.old (c ∷ []) (position needle.now m) sink.new) }
-    ensures err { IfErr result (λ e. Refused S.took S.faults S.takes_memory (chars needle.now) (C.text replacement.now) (position needle.now matched) sink.old (c ∷ []) e sink.new) }
+    ensures ok { IfOk result
+        (λ m. Passed S.took (chars needle.now) (C.text replacement.now)
+        (position needle.now matched) sink.old (c ∷ []) (position needle.now m) sink.new) }
+    ensures err { IfErr result
+        (λ e. Refused S.took S.faults S.takes_memory (chars needle.now) (C.text replacement.now)
+        (position needle.now matched) sink.old (c ∷ []) e sink.new) }
 {
     match resume(needle, matched, c) {
         None => {
@@ -89,7 +98,9 @@ pub(crate) fn take_char<C: Writeable, S: Sink>(
 
 /// The first character of a text, and what is behind it.
 fn split_first(text: &str) -> Option<(char, &str)>
-    ensures { MatchOption result (chars text.now ≡ []) (λ x. (chars text.now ≡ x.0 ∷ chars x.1.now) × (length x.1.now < length text.now) × IsUtf8 x.1.now) }
+    ensures { MatchOption result (chars text.now ≡ [])
+        (λ x. (chars text.now ≡ x.0 ∷ chars x.1.now) × (length x.1.now < length text.now)
+        × IsUtf8 x.1.now) }
 {
     let mut all = text.chars();
     let c = all.next()?;
@@ -110,8 +121,8 @@ fn place_of(bytes: &[u8], byte: u8) -> usize
     bytes.len()
 }
 
-/// How many bytes of a text pass as they are: where nothing is matched, those up to the needle's first
-/// byte.
+/// How many bytes of a text pass as they are: where nothing is matched, those up to the needle's
+/// first byte.
 fn free_len(needle: &str, matched: usize, text: &str) -> usize
     requires { IsPosition needle.now matched }
     ensures { IsFree needle.now matched text.now result }
@@ -125,8 +136,8 @@ fn free_len(needle: &str, matched: usize, text: &str) -> usize
     place_of(text.as_bytes(), needle.as_bytes()[0])
 }
 
-/// Takes a text behind `matched` bytes of the needle: passes on what can't belong to an occurrence any
-/// more, with the replacements, and says how much is matched then.
+/// Takes a text behind `matched` bytes of the needle: passes on what can't belong to an occurrence
+/// any more, with the replacements, and says how much is matched then.
 pub(crate) fn take<C: Writeable, S: Sink>(
     needle: &str,
     replacement: &C,
@@ -136,8 +147,13 @@ pub(crate) fn take<C: Writeable, S: Sink>(
 ) -> Result<usize, SinkError>
     requires { IsPosition needle.now matched }
     ensures matched { IfOk result (λ m. IsPosition needle.now m) }
-    ensures ok { IfOk result (λ m. Passed S.took (chars needle.now) (C.text replacement.now) (position needle.now matched) sink.old (chars text.now) (position needle.now m) sink.new) }
-    ensures err { IfErr result (λ e. Refused S.took S.faults S.takes_memory (chars needle.now) (C.text replacement.now) (position needle.now matched) sink.old (chars text.now) e sink.new) }
+    ensures ok { IfOk result
+        (λ m. Passed S.took (chars needle.now) (C.text replacement.now)
+        (position needle.now matched) sink.old (chars text.now)
+        (position needle.now m) sink.new) }
+    ensures err { IfErr result
+        (λ e. Refused S.took S.faults S.takes_memory (chars needle.now) (C.text replacement.now)
+        (position needle.now matched) sink.old (chars text.now) e sink.new) }
 {
     let mut rest = text;
     loop {

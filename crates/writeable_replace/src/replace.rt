@@ -14,8 +14,8 @@ use crate::matching::pass_front;
 use crate::replacing::pass_on;
 use writeable_core::{LengthHint, PartsWrite, Sink, SinkError, Text, Writeable};
 
-/// A value's text in which each occurrence of the needle is replaced, from the left. An empty needle
-/// replaces nothing, and what the replacement wrote isn't looked at again.
+/// A value's text in which each occurrence of the needle is replaced, from the left. An empty
+/// needle replaces nothing, and what the replacement wrote isn't looked at again.
 #[derive(Drop)]
 pub struct Replace<A, B, C> {
     pub source: A,
@@ -26,19 +26,29 @@ pub struct Replace<A, B, C> {
 impl<A: Writeable, C: Writeable> Writeable for Replace<A, &str, C> {
     ghost text = { λ s. replaced (A.text s.source) (chars s.needle.now) (C.text s.replacement) };
 
-    ghost marked = { λ s. plain (replaced (A.text s.source) (chars s.needle.now) (C.text s.replacement)) };
+    ghost marked = { λ s.
+        plain (replaced (A.text s.source) (chars s.needle.now) (C.text s.replacement)) };
 
-    ghost hint = { λ s. hint_rule (A.hint s.source) (byte_length (chars s.needle.now)) (C.hint s.replacement) };
+    ghost hint = { λ s.
+        hint_rule (A.hint s.source) (byte_length (chars s.needle.now)) (C.hint s.replacement) };
 
     ghost lends = { λ _. false };
 
-    /// Writes the text as it comes. It takes no memory, and keeps nothing of the source but how much of
-    /// the needle is matched.
+    /// Writes the text as it comes. It takes no memory, and keeps nothing of the source but how
+    /// much of the needle is matched.
     fn write_to<S: Sink>(&self, sink: &mut S) -> Result<(), SinkError>
-        ensures ok { OnOk result (S.took sink.old (replaced (A.text self.now.source) (chars self.now.needle.now) (C.text self.now.replacement)) sink.new) }
-        ensures err { OnErr result (TookPrefix S.took sink.old (replaced (A.text self.now.source) (chars self.now.needle.now) (C.text self.now.replacement)) sink.new) }
-        ensures cause { HasCause (S.faults sink.old) (S.faults sink.new) (S.takes_memory sink.old) result }
-        ensures never_fails { S.takes_memory sink.old ≡ false → (Rose (S.faults sink.old) (S.faults sink.new) → ⊥) → IsOk result }
+        ensures ok { OnOk result
+            (S.took sink.old
+            (replaced (A.text self.now.source) (chars self.now.needle.now)
+            (C.text self.now.replacement)) sink.new) }
+        ensures err { OnErr result
+            (TookPrefix S.took sink.old
+            (replaced (A.text self.now.source) (chars self.now.needle.now)
+            (C.text self.now.replacement)) sink.new) }
+        ensures cause { HasCause (S.faults sink.old) (S.faults sink.new)
+            (S.takes_memory sink.old) result }
+        ensures never_fails { S.takes_memory sink.old ≡ false
+            → (Rose (S.faults sink.old) (S.faults sink.new) → ⊥) → IsOk result }
     {
         write_through(&self.source, self.needle, &self.replacement, sink)
     }
@@ -59,11 +69,15 @@ impl<A: Writeable, C: Writeable> Writeable for Replace<A, &str, C> {
         None
     }
 
-    ghost marked_text = { λ s. characters-plain (replaced (A.text s.source) (chars s.needle.now) (C.text s.replacement)) };
+    ghost marked_text = { λ s.
+        characters-plain (replaced (A.text s.source) (chars s.needle.now) (C.text s.replacement)) };
 
-    ghost marked_nests = { λ s. Nests-plain (replaced (A.text s.source) (chars s.needle.now) (C.text s.replacement)) };
+    ghost marked_nests = { λ s.
+        Nests-plain (replaced (A.text s.source) (chars s.needle.now) (C.text s.replacement)) };
 
-    ghost text_hinted = { λ s. Hinted-replaced (A.hint s.source) (C.hint s.replacement) (A.text s.source) (chars s.needle.now) (C.text s.replacement) (A.text_hinted s.source) (C.text_hinted s.replacement) };
+    ghost text_hinted = { λ s. Hinted-replaced (A.hint s.source) (C.hint s.replacement)
+        (A.text s.source) (chars s.needle.now) (C.text s.replacement) (A.text_hinted s.source)
+        (C.text_hinted s.replacement) };
 }
 
 /// The hint of a text with this needle replaced.
@@ -80,9 +94,14 @@ fn write_through<A: Writeable, C: Writeable, S: Sink>(
     replacement: &C,
     sink: &mut S,
 ) -> Result<(), SinkError>
-    ensures ok { OnOk result (S.took sink.old (replaced (A.text source.now) (chars needle.now) (C.text replacement.now)) sink.new) }
-    ensures err { OnErr result (TookPrefix S.took sink.old (replaced (A.text source.now) (chars needle.now) (C.text replacement.now)) sink.new) }
-    ensures cause { HasCause (S.faults sink.old) (S.faults sink.new) (S.takes_memory sink.old) result }
+    ensures ok { OnOk result
+        (S.took sink.old
+        (replaced (A.text source.now) (chars needle.now) (C.text replacement.now)) sink.new) }
+    ensures err { OnErr result
+        (TookPrefix S.took sink.old
+        (replaced (A.text source.now) (chars needle.now) (C.text replacement.now)) sink.new) }
+    ensures cause { HasCause (S.faults sink.old) (S.faults sink.new)
+        (S.takes_memory sink.old) result }
 {
     let (matched, error) = pass_on(source, needle, replacement, sink);
     match error {
@@ -100,10 +119,16 @@ pub fn write_replaced<S: Sink, R: Writeable>(
     needle: &str,
     replacement: &R,
 ) -> Result<(), SinkError>
-    ensures ok { OnOk result (S.took sink.old (replaced (chars text.now) (chars needle.now) (R.text replacement.now)) sink.new) }
-    ensures err { OnErr result (TookPrefix S.took sink.old (replaced (chars text.now) (chars needle.now) (R.text replacement.now)) sink.new) }
-    ensures cause { HasCause (S.faults sink.old) (S.faults sink.new) (S.takes_memory sink.old) result }
-    ensures never_fails { S.takes_memory sink.old ≡ false → (Rose (S.faults sink.old) (S.faults sink.new) → ⊥) → IsOk result }
+    ensures ok { OnOk result
+        (S.took sink.old
+        (replaced (chars text.now) (chars needle.now) (R.text replacement.now)) sink.new) }
+    ensures err { OnErr result
+        (TookPrefix S.took sink.old
+        (replaced (chars text.now) (chars needle.now) (R.text replacement.now)) sink.new) }
+    ensures cause { HasCause (S.faults sink.old) (S.faults sink.new)
+        (S.takes_memory sink.old) result }
+    ensures never_fails { S.takes_memory sink.old ≡ false
+        → (Rose (S.faults sink.old) (S.faults sink.new) → ⊥) → IsOk result }
 {
     let source = Text(text);
     Replace {

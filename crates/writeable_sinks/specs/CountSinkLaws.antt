@@ -14,4 +14,5 @@ Counts-nothing a = grind (arith, common_steps)
 
 pub Counts-both : (a b c : ℕ) (s t : List ℕ) → Counts a s b → Counts b t c → Counts a (s ++ t) c
 Counts-both a b c s t p q =
-    q ∙ ap (λ n. counted n (byte_length t)) p ∙ counted-both a (byte_length s) (byte_length t) ∙ ap (counted a) (sym (byte_length-append s t))
+    q ∙ ap (λ n. counted n (byte_length t)) p ∙ counted-both a (byte_length s) (byte_length t)
+    ∙ ap (counted a) (sym (byte_length-append s t))

@@ -1,8 +1,8 @@
 -- What a contract sees of a `ScriptSource`.
 use Rattle.std.specs.Prelude.{◌≡◌, ℕ, ◌+◌, ◌-◌, ◌^◌, ◌<◌, List, Bool}
 
--- the bytes that are left, the end mark, the most bytes of a call, the number of the call that fails, and
--- how many calls and faults there were
+-- the bytes that are left, the end mark, the most bytes of a call, the number of the call that
+-- fails, and how many calls and faults there were
 pub record ReadScript : Type 0 where
   pub bytes : List ℕ
   pub ended : Bool

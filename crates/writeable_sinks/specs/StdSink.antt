@@ -8,17 +8,21 @@ pub record Writing (W : Type 0) : Type 0 where
   pub writer : W
   pub faults : ℕ
 
--- Faults don't fall; and where none came, what the writer holds grew by the text in UTF-8, if it tells that.
-pub record Writes {W : Type 0} (contents : W → Option (List ℕ)) (old : Writing W) (text : List ℕ) (new : Writing W) : Type 0 where
+-- Faults don't fall; and where none came, what the writer holds grew by the text in UTF-8, if it
+-- tells that.
+pub record Writes {W : Type 0} (contents : W → Option (List ℕ)) (old : Writing W) (text : List ℕ)
+    (new : Writing W) : Type 0 where
   pub later : old.faults ≤ new.faults
-  pub written : (Rose old.faults new.faults → ⊥) → Appends (contents old.writer) (contents new.writer) (encode_utf8_all text)
+  pub written : (Rose old.faults new.faults → ⊥)
+      → Appends (contents old.writer) (contents new.writer) (encode_utf8_all text)
 
 -- what a writer holds grew by the bytes, where it tells that
 abbrev pub Grows : Option (List ℕ) → List ℕ → Option (List ℕ) → Type 0
 Grows old bytes new = Appends old new bytes
 
 -- a front of the bytes was written, and these are left
-pub record WrittenTo (old : Option (List ℕ)) (bytes rest : List ℕ) (new : Option (List ℕ)) : Type 0 where
+pub record WrittenTo (old : Option (List ℕ)) (bytes rest : List ℕ) (new : Option (List ℕ)) :
+    Type 0 where
   pub front : List ℕ
   pub parts : front ++ rest ≡ bytes
   pub taken : Grows old front new

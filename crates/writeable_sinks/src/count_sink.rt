@@ -8,8 +8,8 @@ ghost use Rattle.writeable_core.specs.Sink.{TookPrefix, HasCause};
 use std::marker::Model;
 use writeable_core::{Sink, SinkError};
 
-/// A sink that counts the bytes of what it takes, up to the greatest `u64`. It tells no text, takes no
-/// memory and never faults.
+/// A sink that counts the bytes of what it takes, up to the greatest `u64`. It tells no text, takes
+/// no memory and never faults.
 #[derive(Drop)]
 pub struct CountSink {
     bytes: u64,

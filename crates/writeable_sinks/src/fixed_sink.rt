@@ -1,4 +1,5 @@
-ghost use Rattle.std.specs.Prelude.{◌≡◌, ℕ, ◌+◌, ◌≤◌, ◌↔◌, List, [], ◌∷◌, ◌++◌, Bool, false, Some, IsOk, IsErrOf, OnOk, OnErr};
+ghost use Rattle.std.specs.Prelude.{◌≡◌, ℕ, ◌+◌, ◌≤◌, ◌↔◌, List, [], ◌∷◌, ◌++◌, Bool, false, Some};
+ghost use Rattle.std.specs.Prelude.{IsOk, IsErrOf, OnOk, OnErr};
 ghost use Rattle.std.specs.Str.{chars};
 ghost use Rattle.std.proofs.Common.{rules};
 ghost use Rattle.writeable_core.specs.Hint.{byte_length};
@@ -11,8 +12,8 @@ use arrayvec::ArrayString;
 use std::marker::Model;
 use writeable_core::{Sink, SinkError};
 
-/// A sink that holds a text of at most `N` bytes in itself. It takes no memory. A piece that doesn't
-/// fit in what is free is a fault, and nothing of it is taken.
+/// A sink that holds a text of at most `N` bytes in itself. It takes no memory. A piece that
+/// doesn't fit in what is free is a fault, and nothing of it is taken.
 #[derive(Drop)]
 pub struct FixedSink<const N: usize> {
     text: ArrayString<N>,
@@ -74,7 +75,8 @@ impl<const N: usize> Sink for FixedSink<N> {
         ensures ok { OnOk result (Grew self.old (chars piece.now) self.new) }
         ensures err { OnErr result (TookPrefix Grew self.old (chars piece.now) self.new) }
         ensures cause { HasCause self.old.faults self.new.faults false result }
-        ensures fits { IsOk result ↔ (byte_length self.old.text + byte_length (chars piece.now) ≤ N) }
+        ensures fits { IsOk result
+            ↔ (byte_length self.old.text + byte_length (chars piece.now) ≤ N) }
         ensures kept { OnErr result (self.new.text ≡ self.old.text) }
         ensures no_fault { OnOk result (self.new.faults ≡ self.old.faults) }
     {

@@ -12,6 +12,7 @@ pub trait FlushSink: Sink {
     /// Hands on what is held back.
     fn flush(&mut self) -> Result<(), SinkError>
         ensures taken { Self.took self.old [] self.new }
-        ensures cause { HasCause (Self.faults self.old) (Self.faults self.new) (Self.takes_memory self.old) result }
+        ensures cause { HasCause (Self.faults self.old) (Self.faults self.new)
+            (Self.takes_memory self.old) result }
         ensures flushed { OnOk result (flushes self.old self.new) };
 }

@@ -1,5 +1,5 @@
-//! Sinks and sources of the crate `writeable` that its ground doesn't need: of a fixed size, counting,
-//! scripted, for marked texts, and over std's writers and readers.
+//! Sinks and sources of the crate `writeable` that its ground doesn't need: of a fixed size,
+//! counting, scripted, for marked texts, and over std's writers and readers.
 //!
 //! ```
 //! let mut sink = FixedSink::<8>::new();
@@ -13,8 +13,8 @@
 //! - `flush_sink`: [`FlushSink`] is for sinks that may hold back what they take.
 //! - `laws`: what a [`PartsSink`] holds, as laws that contracts may cite.
 //! - `parts_sink`: [`PartsSink`] holds a marked text, and where its parts lie.
-//! - `script_sink`, `script_source`: [`ScriptSink`] and [`ScriptSource`] fail at the calls that they are
-//!   told, for tests of what happens then.
+//! - `script_sink`, `script_source`: [`ScriptSink`] and [`ScriptSource`] fail at the calls that
+//!   they are told, for tests of what happens then.
 //! - `standard`: [`StdSink`] and [`StdSource`] are over std's writers and readers.
 #![tactic(auto)]
 

@@ -1,4 +1,5 @@
-ghost use Rattle.std.specs.Prelude.{◌≡◌, ◌≢◌, ℕ, ◌<◌, ◌≤◌, List, [], ◌∷◌, ◌++◌, Bool, true, Some, IsErrOf, OnOk, OnErr, length, map};
+ghost use Rattle.std.specs.Prelude.{◌≡◌, ◌≢◌, ℕ, ◌<◌, ◌≤◌, List, [], ◌∷◌, ◌++◌, Bool, true, Some};
+ghost use Rattle.std.specs.Prelude.{IsErrOf, OnOk, OnErr, length, map};
 ghost use Rattle.std.specs.Str.{chars};
 ghost use Rattle.std.proofs.Common.{rules};
 ghost use Rattle.writeable_core.specs.Sink.{TookPrefix, HasCause};
@@ -6,7 +7,9 @@ ghost use Rattle.writeable_core.specs.SinkLaws.{append_held};
 ghost use Rattle.writeable_core.specs.Marks.{Open, Close, part_name};
 ghost use Rattle.writeable_sinks.specs.Spans.{span_of};
 ghost use Rattle.writeable_sinks.specs.PartsSink.{TookText, TookMarks, no_parts, with_span, Begun};
-ghost use Rattle.writeable_sinks.specs.PartsSinkLaws.{TookText-nothing, TookText-both, TookMarks-both, TookMarks-held, TookMarks-open, marks_of_text, text_of_marks};
+ghost use Rattle.writeable_sinks.specs.PartsSinkLaws.{TookText-nothing, TookText-both};
+ghost use Rattle.writeable_sinks.specs.PartsSinkLaws.{TookMarks-both, TookMarks-held};
+ghost use Rattle.writeable_sinks.specs.PartsSinkLaws.{TookMarks-open, marks_of_text, text_of_marks};
 ghost use Rattle.writeable_sinks.specs.PartsFields.{begun_of};
 
 use std::alloc::Global;
@@ -102,7 +105,13 @@ impl PartsSink {
     /// Takes the part that was opened last off the open ones.
     fn forget_last(&mut self)
         requires { 0 < length self.old.begun }
-        ensures { (last : Begun) × (self.old ≡ record { text = self.new.text; begun = last ∷ self.new.begun; spans = self.new.spans }) }
+        ensures { (last : Begun)
+            × (self.old
+            ≡ record {
+              text = self.new.text;
+              begun = last ∷ self.new.begun;
+              spans = self.new.spans;
+            }) }
     {
         self.opened.pop();
     }

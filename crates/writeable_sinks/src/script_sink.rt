@@ -1,4 +1,5 @@
-ghost use Rattle.std.specs.Prelude.{◌≡◌, ℕ, ◌+◌, ◌-◌, ◌^◌, ◌≤◌, ◌↔◌, min, List, [], ◌∷◌, ◌++◌, Bool, true, Some, IsErrOf, OnOk, OnErr, vec_len, string_bytes};
+ghost use Rattle.std.specs.Prelude.{◌≡◌, ℕ, ◌+◌, ◌-◌, ◌^◌, ◌≤◌, ◌↔◌, min, List, [], ◌∷◌, ◌++◌};
+ghost use Rattle.std.specs.Prelude.{Bool, true, Some, IsErrOf, OnOk, OnErr, vec_len, string_bytes};
 ghost use Rattle.std.specs.Str.{chars};
 ghost use Rattle.std.proofs.Common.{rules};
 ghost use Rattle.writeable_core.specs.Sink.{TookPrefix, HasCause};
@@ -10,8 +11,8 @@ use std::alloc::Global;
 use std::marker::Model;
 use writeable_core::{Sink, SinkError};
 
-/// A sink that holds a text in memory and fails at the pushes that it is told, counted from one: these
-/// take nothing and answer `Fault`. It serves tests of what happens where a write fails.
+/// A sink that holds a text in memory and fails at the pushes that it is told, counted from one:
+/// these take nothing and answer `Fault`. It serves tests of what happens where a write fails.
 #[derive(Drop)]
 pub struct ScriptSink {
     text: String,
@@ -27,7 +28,13 @@ impl Model for ScriptSink {
 
     ghost Value = { Script };
 
-    ghost view = { λ s. record { text = chars (string_bytes s.text); failing = s.failing.items; pushes = s.pushes; faults = s.faults } };
+    ghost view = { λ s.
+        record {
+          text = chars (string_bytes s.text);
+          failing = s.failing.items;
+          pushes = s.pushes;
+          faults = s.faults;
+        } };
 }
 
 impl ScriptSink {
@@ -59,7 +66,8 @@ impl ScriptSink {
 
     /// Counts a push, and a fault where the push is one of those that fail.
     fn start_push(&mut self) -> Result<(), SinkError>
-        ensures pushes { self.new ≡ record self.old { pushes = self.new.pushes; faults = self.new.faults } }
+        ensures pushes { self.new
+            ≡ record self.old { pushes = self.new.pushes; faults = self.new.faults } }
         ensures next { self.new.pushes ≡ min (self.old.pushes + 1) (2 ^ 64 - 1) }
         ensures scripted { IsErrOf result SinkError.Fault ↔ IsNextListed self.old }
         ensures cause { HasCause self.old.faults self.new.faults true result }

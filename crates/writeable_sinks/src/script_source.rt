@@ -1,4 +1,5 @@
-ghost use Rattle.std.specs.Prelude.{◌≡◌, ℕ, ◌+◌, ◌-◌, ◌^◌, ◌≤◌, ◌==◌, ◌<◌, ◌↔◌, min, Bool, false, List, length, take, Some, IsErr, IfOk, OnOk, OnErr};
+ghost use Rattle.std.specs.Prelude.{◌≡◌, ℕ, ◌+◌, ◌-◌, ◌^◌, ◌≤◌, ◌==◌, ◌<◌, ◌↔◌, min, Bool, false};
+ghost use Rattle.std.specs.Prelude.{List, length, take, Some, IsErr, IfOk, OnOk, OnErr};
 ghost use Rattle.std.specs.Io.KnownBytes.{Consumes, Keeps, IsAtEnd};
 ghost use Rattle.writeable_core.specs.Sink.{Rose};
 ghost use Rattle.writeable_sinks.specs.ScriptSource.{ReadScript, FailsNext};
@@ -6,8 +7,8 @@ ghost use Rattle.writeable_sinks.specs.ScriptSource.{ReadScript, FailsNext};
 use std::marker::Model;
 use writeable_core::{Source, SourceFault};
 
-/// A source of the bytes of a slice that gives at most so many bytes a call, and fails at one call. It
-/// serves tests of reads that come in pieces or fail.
+/// A source of the bytes of a slice that gives at most so many bytes a call, and fails at one call.
+/// It serves tests of reads that come in pieces or fail.
 #[derive(Drop)]
 pub struct ScriptSource<'a> {
     rest: &'a [u8],
@@ -24,7 +25,15 @@ impl<'a> Model for ScriptSource<'a> {
 
     ghost Value = { ReadScript };
 
-    ghost view = { λ s. record { bytes = s.rest.now; ended = s.ended; most = s.most; failing = s.failing; calls = s.calls; faults = s.faults } };
+    ghost view = { λ s.
+        record {
+          bytes = s.rest.now;
+          ended = s.ended;
+          most = s.most;
+          failing = s.failing;
+          calls = s.calls;
+          faults = s.faults;
+        } };
 
     ghost invariant = { λ s. 1 ≤ s.most };
 }
@@ -34,7 +43,15 @@ impl ScriptSource<'_> {
     /// fails; with 0 none does.
     pub fn new(bytes: &[u8], most: usize, failing: u64) -> ScriptSource<'_>
         requires { 1 ≤ most }
-        ensures { result ≡ record { bytes = bytes.now; ended = false; most = most; failing = failing; calls = 0; faults = 0 } }
+        ensures { result
+            ≡ record {
+              bytes = bytes.now;
+              ended = false;
+              most = most;
+              failing = failing;
+              calls = 0;
+              faults = 0;
+            } }
     {
         ScriptSource {
             rest: bytes,
@@ -56,8 +73,10 @@ impl Source for ScriptSource<'_> {
 
     fn read(&mut self, buffer: &mut [u8]) -> Result<usize, SourceFault>
         ensures count { IfOk result (λ k. k ≤ length buffer.old) }
-        ensures bytes { IfOk result (λ k. Consumes (Some self.old.bytes) (Some self.new.bytes) (take k buffer.new)) }
-        ensures end { IfOk result (λ k. 0 < length buffer.old → k ≡ 0 → IsAtEnd (Some self.new.bytes)) }
+        ensures bytes { IfOk result
+            (λ k. Consumes (Some self.old.bytes) (Some self.new.bytes) (take k buffer.new)) }
+        ensures end { IfOk result
+            (λ k. 0 < length buffer.old → k ≡ 0 → IsAtEnd (Some self.new.bytes)) }
         ensures mark { IfOk result (λ k. 0 < length buffer.old → self.new.ended ≡ (k == 0)) }
         ensures empty { length buffer.old ≡ 0 → self.new.ended ≡ self.old.ended }
         ensures kept { OnErr result (Keeps (Some self.old.bytes) (Some self.new.bytes)) }
@@ -66,9 +85,11 @@ impl Source for ScriptSource<'_> {
         ensures cause { OnErr result (Rose self.old.faults self.new.faults) }
         ensures no_fault { OnOk result (self.new.faults ≡ self.old.faults) }
         ensures scripted { IsErr result ↔ FailsNext self.old }
-        ensures gives { IfOk result (λ k. k ≡ min (length buffer.old) (min self.old.most (length self.old.bytes))) }
+        ensures gives { IfOk result
+            (λ k. k ≡ min (length buffer.old) (min self.old.most (length self.old.bytes))) }
         ensures next { self.new.calls ≡ min (self.old.calls + 1) (2 ^ 64 - 1) }
-        ensures same_script { (self.new.most ≡ self.old.most) × (self.new.failing ≡ self.old.failing) }
+        ensures same_script { (self.new.most ≡ self.old.most)
+            × (self.new.failing ≡ self.old.failing) }
     {
         if let Some(number) = self.calls.checked_add(1) {
             self.calls = number;

@@ -1,6 +1,7 @@
 //! Sinks and sources over std's writers and readers.
 
-ghost use Rattle.std.specs.Prelude.{◌≡◌, ℕ, ◌+◌, ◌<◌, ◌≤◌, ◌==◌, Bool, true, false, List, [], ◌∷◌, None, IfOk, OnOk, OnErr, IsErrOf, length, take, encode_utf8};
+ghost use Rattle.std.specs.Prelude.{◌≡◌, ℕ, ◌+◌, ◌<◌, ◌≤◌, ◌==◌, Bool, true, false, List, [], ◌∷◌};
+ghost use Rattle.std.specs.Prelude.{None, IfOk, OnOk, OnErr, IsErrOf, length, take, encode_utf8};
 ghost use Rattle.std.specs.Str.{chars};
 ghost use Rattle.std.specs.Io.KnownBytes.{Appends, Consumes, Keeps, IsAtEnd};
 ghost use Rattle.std.proofs.Common.{rules};
@@ -13,11 +14,12 @@ use std::io::{Read, Write};
 use std::marker::Model;
 use writeable_core::{Sink, SinkError, Source, SourceFault};
 
-/// A sink over one of std's writers. It tells no text and takes no memory; each `Err` of the writer,
-/// and each write that takes nothing of a piece that isn't empty, is a fault.
+/// A sink over one of std's writers. It tells no text and takes no memory; each `Err` of the
+/// writer, and each write that takes nothing of a piece that isn't empty, is a fault.
 ///
-/// What the writer took of a piece is said where the writer tells what it holds: all of the piece where
-/// the push answers `Ok`, and a front of its bytes, which may end inside a character, on a fault.
+/// What the writer took of a piece is said where the writer tells what it holds: all of the piece
+/// where the push answers `Ok`, and a front of its bytes, which may end inside a character, on a
+/// fault.
 #[derive(Drop)]
 pub struct StdSink<W> {
     writer: W,
@@ -54,7 +56,8 @@ impl<W> StdSink<W> {
 /// Writes all of the bytes, or what the writer takes before it fails.
 fn write_whole<W: Write>(writer: &mut W, bytes: &[u8]) -> Result<(), SinkError>
     ensures ok { OnOk result (Appends (W.contents writer.old) (W.contents writer.new) bytes.now) }
-    ensures front { OnErr result (TookPrefix Grows (W.contents writer.old) bytes.now (W.contents writer.new)) }
+    ensures front { OnErr result
+        (TookPrefix Grows (W.contents writer.old) bytes.now (W.contents writer.new)) }
     ensures memory { IsErrOf result SinkError.NoMemory → ⊥ }
 {
     let mut rest = bytes;
@@ -88,11 +91,14 @@ impl<W: Write> Sink for StdSink<W> {
 
     fn push_str(&mut self, piece: &str) -> Result<(), SinkError>
         ensures ok { OnOk result (Writes W.contents self.old (chars piece.now) self.new) }
-        ensures err { OnErr result (TookPrefix (Writes W.contents) self.old (chars piece.now) self.new) }
+        ensures err { OnErr result
+            (TookPrefix (Writes W.contents) self.old (chars piece.now) self.new) }
         ensures cause { HasCause self.old.faults self.new.faults false result }
         ensures no_fault { OnOk result (self.new.faults ≡ self.old.faults) }
-        ensures written { OnOk result (Appends (W.contents self.old.writer) (W.contents self.new.writer) piece.now) }
-        ensures front { OnErr result (TookPrefix Grows (W.contents self.old.writer) piece.now (W.contents self.new.writer)) }
+        ensures written { OnOk result
+            (Appends (W.contents self.old.writer) (W.contents self.new.writer) piece.now) }
+        ensures front { OnErr result
+            (TookPrefix Grows (W.contents self.old.writer) piece.now (W.contents self.new.writer)) }
     {
         match write_whole(&mut self.writer, piece.as_bytes()) {
             Ok(()) => Ok(()),
@@ -108,8 +114,11 @@ impl<W: Write> Sink for StdSink<W> {
         ensures err { OnErr result (TookPrefix (Writes W.contents) self.old (c ∷ []) self.new) }
         ensures cause { HasCause self.old.faults self.new.faults false result }
         ensures no_fault { OnOk result (self.new.faults ≡ self.old.faults) }
-        ensures written { OnOk result (Appends (W.contents self.old.writer) (W.contents self.new.writer) (encode_utf8 c)) }
-        ensures front { OnErr result (TookPrefix Grows (W.contents self.old.writer) (encode_utf8 c) (W.contents self.new.writer)) }
+        ensures written { OnOk result
+            (Appends (W.contents self.old.writer) (W.contents self.new.writer) (encode_utf8 c)) }
+        ensures front { OnErr result
+            (TookPrefix Grows (W.contents self.old.writer) (encode_utf8 c)
+            (W.contents self.new.writer)) }
     {
         let mut buffer = [0u8; 4];
         self.push_str(c.encode_utf8(&mut buffer))
@@ -185,9 +194,13 @@ impl<R: Read> Source for StdSource<R> {
         ensures later { self.old.faults ≤ self.new.faults }
         ensures cause { OnErr result (Rose self.old.faults self.new.faults) }
         ensures no_fault { OnOk result (self.new.faults ≡ self.old.faults) }
-        ensures given { IfOk result (λ k. Consumes (R.remaining self.old.reader) (R.remaining self.new.reader) (take k buffer.new)) }
-        ensures reader_end { IfOk result (λ k. 0 < length buffer.old → k ≡ 0 → IsAtEnd (R.remaining self.new.reader)) }
-        ensures reader_kept { OnErr result (Keeps (R.remaining self.old.reader) (R.remaining self.new.reader)) }
+        ensures given { IfOk result
+            (λ k. Consumes (R.remaining self.old.reader) (R.remaining self.new.reader)
+            (take k buffer.new)) }
+        ensures reader_end { IfOk result
+            (λ k. 0 < length buffer.old → k ≡ 0 → IsAtEnd (R.remaining self.new.reader)) }
+        ensures reader_kept { OnErr result
+            (Keeps (R.remaining self.old.reader) (R.remaining self.new.reader)) }
     {
         match self.reader.read(buffer) {
             Ok(count) => {

@@ -1,7 +1,10 @@
 -- A text in the case of a langtag is the text of its parts.
-use Rattle.std.proofs.Common.{◌≡◌, ℕ, zero, suc, ◌+◌, ◌-◌, true, List, [], ◌∷◌, ◌++◌, Option, Some, None, length, take, drop, refl, sym, ap, ◌∙◌, arith, append_assoc, append-nil, length-append, map}
+use Rattle.std.proofs.Common.{◌≡◌, ℕ, zero, suc, ◌+◌, ◌-◌, true, List, [], ◌∷◌, ◌++◌, Option, Some}
+use Rattle.std.proofs.Common.{None, length, take, drop, refl, sym, ap, ◌∙◌, arith, append_assoc}
+use Rattle.std.proofs.Common.{append-nil, length-append, map}
 use Rattle.std.specs.Prelude.{IfSome, IsTrue}
-use Rattle.std.specs.Char.{is_ascii_lowercase, is_ascii_uppercase, to_ascii_lowercase, to_ascii_uppercase}
+use Rattle.std.specs.Char.{is_ascii_lowercase, is_ascii_uppercase, to_ascii_lowercase}
+use Rattle.std.specs.Char.{to_ascii_uppercase}
 use Rattle.std.specs.List.{list_all}
 use Rattle.std.specs.Option.{option_map}
 use Rattle.std.specs.Str.{byte}
@@ -15,8 +18,10 @@ use Rattle.language_tags_grammar.specs.Shapes.{AreParts, is_region, is_script}
 use Rattle.language_tags_grammar.specs.Tag.{Parts, at_most_one, written}
 use Rattle.language_tags_grammar.specs.declared.ends.Ends.{Ends}
 use Rattle.language_tags_grammar.specs.Lemmas.Faults.{Scanned}
-use Rattle.language_tags_grammar.specs.Lemmas.KeptLaws.{E, P, R, S, V, X, between-middle, text-parts}
-use Rattle.language_tags_grammar.specs.Lemmas.PartsLaws.{letters-small, region-upper, small-lowercase, written-lowercase}
+use Rattle.language_tags_grammar.specs.Lemmas.KeptLaws.{E, P, R, S, V, X, between-middle}
+use Rattle.language_tags_grammar.specs.Lemmas.KeptLaws.{text-parts}
+use Rattle.language_tags_grammar.specs.Lemmas.PartsLaws.{letters-small, region-upper}
+use Rattle.language_tags_grammar.specs.Lemmas.PartsLaws.{small-lowercase, written-lowercase}
 
 -- ---- maps and cuts
 
@@ -30,8 +35,10 @@ drop-map f zero t = refl
 drop-map f (suc n) [] = refl
 drop-map f (suc n) (c ∷ t) = drop-map f n t
 
-between-map : (f : ℕ → ℕ) (from to : ℕ) (t : List ℕ) → map f (between from to t) ≡ between from to (map f t)
-between-map f from to t = take-map f (to - from) (drop from t) ∙ ap (take (to - from)) (drop-map f from t)
+between-map : (f : ℕ → ℕ) (from to : ℕ) (t : List ℕ)
+    → map f (between from to t) ≡ between from to (map f t)
+between-map f from to t =
+    take-map f (to - from) (drop from t) ∙ ap (take (to - from)) (drop-map f from t)
 
 upper-lowercase : (c : ℕ) → to_ascii_uppercase (to_ascii_lowercase c) ≡ to_ascii_uppercase c
 upper-lowercase c = grind (arith, nat_tests)
@@ -42,12 +49,19 @@ uppercase-lowercase (c ∷ t) = λ i. upper-lowercase c i ∷ uppercase-lowercas
 
 -- the parts in lower case
 abbrev pub small : Parts → Parts
-small p = record p { script = option_map lowercase p.script; region = option_map lowercase p.region }
+small p =
+    record p { script = option_map lowercase p.script; region = option_map lowercase p.region }
 
-pub length-one : (o : Option (List ℕ)) → length (dashed (at_most_one (option_map lowercase o))) ≡ length (dashed (at_most_one o))
+pub length-one : (o : Option (List ℕ))
+    → length (dashed (at_most_one (option_map lowercase o))) ≡ length (dashed (at_most_one o))
 length-one None = refl
 length-one (Some x) =
-    omega (arith, length-append (lowercase x) [], length-append x [], length-map x to_ascii_lowercase)
+    omega (
+      arith,
+      length-append (lowercase x) [],
+      length-append x [],
+      length-map x to_ascii_lowercase,
+    )
 
 pub small-ends : (p : Parts) (ends : Ends) → EndAt p ends → EndAt (small p) ends
 small-ends p ends at = record {
@@ -64,11 +78,13 @@ region-there : (o : Option (List ℕ)) → IfSome o (λ r. IsTrue (is_region r))
     → uppercase (dashed (at_most_one (option_map lowercase o))) ≡ dashed (at_most_one o)
 region-there None h = refl
 region-there (Some x) h =
-    ap (λ t. byte "-" ∷ t) (ap uppercase (append-nil (lowercase x)) ∙ region-upper x h ∙ sym (append-nil x))
+    ap (λ t. byte "-" ∷ t)
+    (ap uppercase (append-nil (lowercase x)) ∙ region-upper x h ∙ sym (append-nil x))
 
 -- the script again
 script-there : (x : List ℕ) → is_script x ≡ true
-    → (c : ℕ) × (d : ℕ) × (rest : List ℕ) × (dashed (x ∷ []) ≡ byte "-" ∷ c ∷ rest) × (dashed (lowercase x ∷ []) ≡ byte "-" ∷ d ∷ rest)
+    → (c : ℕ) × (d : ℕ) × (rest : List ℕ) × (dashed (x ∷ []) ≡ byte "-" ∷ c ∷ rest)
+    × (dashed (lowercase x ∷ []) ≡ byte "-" ∷ d ∷ rest)
     × (to_ascii_uppercase d ≡ c)
 script-there [] h = absurd (grind (arith, nat_tests))
 script-there (c ∷ x) h =
@@ -95,14 +111,23 @@ module _ (p : Parts) (h : AreParts p) (ends : Ends) (at : EndAt p ends) where
 
   front : take ends.extlang L ≡ p.language ++ E p
   front =
-      ap (take ends.extlang) (sym (append_assoc p.language (E p) (S (small p) ++ (R (small p) ++ back))))
-      ∙ take_at (p.language ++ E p) (S (small p) ++ (R (small p) ++ back)) ends.extlang (sym front-width)
+      ap (take ends.extlang)
+      (sym (append_assoc p.language (E p) (S (small p) ++ (R (small p) ++ back))))
+      ∙ take_at (p.language ++ E p) (S (small p) ++ (R (small p) ++ back)) ends.extlang
+      (sym front-width)
 
   region-part : between ends.script ends.region L ≡ R (small p)
   region-part =
       ap (between ends.script ends.region) (simp append_assoc)
-      ∙ between-middle ((p.language ++ E p) ++ S (small p)) (R (small p)) back ends.script ends.region
-      (omega (arith, front-width, at.script, length-one p.script, length-append (p.language ++ E p) (S (small p))))
+      ∙ between-middle ((p.language ++ E p) ++ S (small p))
+      (R (small p)) back ends.script ends.region
+      (omega (
+        arith,
+        front-width,
+        at.script,
+        length-one p.script,
+        length-append (p.language ++ E p) (S (small p)),
+      ))
       (omega (arith, at.region, length-one p.region))
 
   rest-part : drop ends.region L ≡ back
@@ -121,13 +146,16 @@ module _ (p : Parts) (h : AreParts p) (ends : Ends) (at : EndAt p ends) where
       ))
 
   script-part : (o : Option (List ℕ)) → p.script ≡ o → IfSome o (λ s. IsTrue (is_script s))
-      → uppercase (between ends.extlang (capital ends) L) ++ between (capital ends) ends.script L ≡ dashed (at_most_one o)
+      → uppercase (between ends.extlang (capital ends) L) ++ between (capital ends) ends.script L
+      ≡ dashed (at_most_one o)
   script-part None e s =
-      let same : ends.script ≡ ends.extlang = omega (arith, at.script, ap (λ q. length (dashed (at_most_one q))) e) in
+      let same : ends.script ≡ ends.extlang =
+      omega (arith, at.script, ap (λ q. length (dashed (at_most_one q))) e) in
       let cap : capital ends ≡ ends.extlang = omega (arith, same) in
       let none : ends.extlang - ends.extlang ≡ 0 = omega arith in
       (λ i. uppercase (between ends.extlang (cap i) L) ++ between (cap i) (same i) L)
-      ∙ (λ i. uppercase (take (none i) (drop ends.extlang L)) ++ take (none i) (drop ends.extlang L))
+      ∙ (λ i. uppercase (take (none i) (drop ends.extlang L))
+      ++ take (none i) (drop ends.extlang L))
   script-part (Some x) e s =
       let cut = script-there x s in
       let c = cut.0 in
@@ -144,27 +172,38 @@ module _ (p : Parts) (h : AreParts p) (ends : Ends) (at : EndAt p ends) where
       let cap : capital ends ≡ ends.extlang + 2 = omega (arith, wide) in
       let first : between ends.extlang (capital ends) L ≡ byte "-" ∷ d ∷ [] =
       ap (between ends.extlang (capital ends)) whole
-      ∙ between-middle front (byte "-" ∷ d ∷ []) (rest ++ more) ends.extlang (capital ends) front-width cap in
+      ∙ between-middle front (byte "-" ∷ d ∷ []) (rest ++ more) ends.extlang
+      (capital ends) front-width cap in
       let second : between (capital ends) ends.script L ≡ rest =
-      ap (between (capital ends) ends.script) (whole ∙ sym (append_assoc front (byte "-" ∷ d ∷ []) (rest ++ more)))
+      ap (between (capital ends) ends.script)
+      (whole ∙ sym (append_assoc front (byte "-" ∷ d ∷ []) (rest ++ more)))
       ∙ between-middle (front ++ (byte "-" ∷ d ∷ [])) rest more (capital ends) ends.script
-      (omega (arith, cap, front-width, length-append front (byte "-" ∷ d ∷ []))) (omega (arith, cap, wide)) in
+      (omega (arith, cap, front-width, length-append front (byte "-" ∷ d ∷ [])))
+      (omega (arith, cap, wide)) in
       (λ i. uppercase (first i) ++ second i) ∙ ap (λ b. byte "-" ∷ b ∷ rest) cut.5 ∙ sym cut.3
 
-  pub in_case-parts : (text : List ℕ) → lowercase text ≡ joined (map lowercase (written p)) → in_case ends text ≡ joined (written p)
+  pub in_case-parts : (text : List ℕ) → lowercase text ≡ joined (map lowercase (written p))
+      → in_case ends text ≡ joined (written p)
   in_case-parts text e =
       let all : lowercase text ≡ L = e ∙ ap joined (written-lowercase p h) ∙ text-parts (small p) in
       let up : uppercase text ≡ uppercase L = sym (uppercase-lowercase text) ∙ ap uppercase all in
       let c = capital ends in
-      (λ i. (take-map to_ascii_lowercase ends.extlang text i ++ between-map to_ascii_uppercase ends.extlang c text i
-      ++ between-map to_ascii_lowercase c ends.script text i ++ between-map to_ascii_uppercase ends.script ends.region text i
+      (λ i.
+      (take-map to_ascii_lowercase ends.extlang text i
+      ++ between-map to_ascii_uppercase ends.extlang c text i
+      ++ between-map to_ascii_lowercase c ends.script text i
+      ++ between-map to_ascii_uppercase ends.script ends.region text i
       ++ drop-map to_ascii_lowercase ends.region text i))
-      ∙ (λ i. take ends.extlang (all i) ++ between ends.extlang c (up i) ++ between c ends.script (all i)
+      ∙ (λ i. take ends.extlang (all i) ++ between ends.extlang c (up i)
+      ++ between c ends.script (all i)
       ++ between ends.script ends.region (up i) ++ drop ends.region (all i))
-      ∙ (λ i. front i ++ sym (between-map to_ascii_uppercase ends.extlang c L) i ++ between c ends.script L
-      ++ (sym (between-map to_ascii_uppercase ends.script ends.region L) ∙ ap uppercase region-part ∙ region-there p.region h.region) i
+      ∙ (λ i. front i ++ sym (between-map to_ascii_uppercase ends.extlang c L) i
+      ++ between c ends.script L
+      ++ (sym (between-map to_ascii_uppercase ends.script ends.region L) ∙ ap uppercase region-part
+      ∙ region-there p.region h.region) i
       ++ rest-part i)
-      ∙ regroup (p.language ++ E p) (uppercase (between ends.extlang c L)) (between c ends.script L) (R p) back
+      ∙ regroup (p.language ++ E p) (uppercase (between ends.extlang c L))
+      (between c ends.script L) (R p) back
       ∙ ap (λ s. (p.language ++ E p) ++ (s ++ (R p ++ back))) (script-part p.script refl h.script)
       ∙ append_assoc p.language (E p) (S p ++ (R p ++ back))
       ∙ sym (text-parts p)
@@ -183,7 +222,12 @@ module _ (text : List ℕ) (ends : Ends) (s : Scanned (pieces (lowercase text)) 
         extlang = ap (λ x. x.extlang) e
             ∙ omega (arith, length-append p.language [], ap (λ x. x.language) e);
         script = ap (λ x. x.script) e
-            ∙ omega (arith, length-append p.language [], ap (λ x. x.extlang) e, length-one p.script);
+            ∙ omega (
+              arith,
+              length-append p.language [],
+              ap (λ x. x.extlang) e,
+              length-one p.script,
+            );
         region = ap (λ x. x.region) e
             ∙ omega (arith, length-append p.language [], ap (λ x. x.script) e, length-one p.region);
         variant = ap (λ x. x.variant) e

@@ -1,10 +1,14 @@
 -- The pieces of a langtag, section by section, as the scanner passes them.
-use Rattle.std.proofs.Common.{◌≡◌, ℕ, zero, suc, ◌+◌, ◌-◌, List, [], ◌∷◌, ◌++◌, length, refl, ap, arith, append_assoc, append-nil, length-append}
+use Rattle.std.proofs.Common.{◌≡◌, ℕ, zero, suc, ◌+◌, ◌-◌, List, [], ◌∷◌, ◌++◌, length, refl, ap}
+use Rattle.std.proofs.Common.{arith, append_assoc, append-nil, length-append}
 use Rattle.language_tags_grammar.specs.Pieces.{dashed}
 use Rattle.language_tags_grammar.specs.Scan.{ends_at}
 use Rattle.language_tags_grammar.specs.declared.ends.Ends.{Ends}
 use Rattle.language_tags_grammar.specs.declared.stage.Stage.{Stage}
-use Rattle.language_tags_grammar.specs.declared.stage.Stage.TheVariants.{Start, LongLanguage, Extlangs, Script, Region, Variant, Singleton, Extension, X, Private}
+use Rattle.language_tags_grammar.specs.declared.stage.Stage.TheVariants.{Start, LongLanguage}
+use Rattle.language_tags_grammar.specs.declared.stage.Stage.TheVariants.{Extlangs, Script, Region}
+use Rattle.language_tags_grammar.specs.declared.stage.Stage.TheVariants.{Variant, Singleton}
+use Rattle.language_tags_grammar.specs.declared.stage.Stage.TheVariants.{Extension, X, Private}
 
 pub record Flat : Type 0 where
   pub language : List (List ℕ)
@@ -16,12 +20,22 @@ pub record Flat : Type 0 where
   pub private : List (List ℕ)
 
 abbrev pub nothing : Flat
-nothing = record { language = []; extlangs = []; script = []; region = []; variants = []; extension = []; private = [] }
+nothing =
+    record {
+      language = [];
+      extlangs = [];
+      script = [];
+      region = [];
+      variants = [];
+      extension = [];
+      private = [];
+    }
 
 -- all of the pieces
 abbrev pub seen : Flat → List (List ℕ)
 seen f =
-    f.language ++ (f.extlangs ++ (f.script ++ (f.region ++ (f.variants ++ (f.extension ++ f.private)))))
+    f.language
+    ++ (f.extlangs ++ (f.script ++ (f.region ++ (f.variants ++ (f.extension ++ f.private)))))
 
 -- how long pieces are, with a dash before each
 abbrev pub width : List (List ℕ) → ℕ
@@ -37,8 +51,12 @@ ends_of f = record {
   extlang = (width f.language + width f.extlangs) - 1;
   script = (width f.language + width f.extlangs + width f.script) - 1;
   region = (width f.language + width f.extlangs + width f.script + width f.region) - 1;
-  variant = (width f.language + width f.extlangs + width f.script + width f.region + width f.variants) - 1;
-  extension = (width f.language + width f.extlangs + width f.script + width f.region + width f.variants + width f.extension) - 1;
+  variant =
+      (width f.language + width f.extlangs + width f.script + width f.region
+      + width f.variants) - 1;
+  extension =
+      (width f.language + width f.extlangs + width f.script + width f.region + width f.variants
+      + width f.extension) - 1;
 }
 
 -- the pieces, with one more in the section of a stage
@@ -93,19 +111,28 @@ NoneBehind Private f = Unit {0}
 pub width-append : (ps qs : List (List ℕ)) → width (ps ++ qs) ≡ width ps + width qs
 width-append [] qs = omega arith
 width-append (p ∷ ps) qs =
-    omega (arith, width-append ps qs, length-append p (dashed (ps ++ qs)), length-append p (dashed ps))
+    omega (
+      arith,
+      width-append ps qs,
+      length-append p (dashed (ps ++ qs)),
+      length-append p (dashed ps),
+    )
 
-pub width_more : (ps : List (List ℕ)) (x : List ℕ) → width (ps ++ (x ∷ [])) ≡ width ps + length x + 1
+pub width_more : (ps : List (List ℕ)) (x : List ℕ)
+    → width (ps ++ (x ∷ [])) ≡ width ps + length x + 1
 width_more ps x = omega (arith, width-append ps (x ∷ []), length-append x [])
 
 pub place_is : (f : Flat) → place f
-    ≡ width f.language + width f.extlangs + width f.script + width f.region + width f.variants + width f.extension
+    ≡ width f.language + width f.extlangs + width f.script + width f.region + width f.variants
+    + width f.extension
     + width f.private
 place_is f =
     omega (
       arith,
-      width-append f.language (f.extlangs ++ (f.script ++ (f.region ++ (f.variants ++ (f.extension ++ f.private))))),
-      width-append f.extlangs (f.script ++ (f.region ++ (f.variants ++ (f.extension ++ f.private)))),
+      width-append f.language
+          (f.extlangs ++ (f.script ++ (f.region ++ (f.variants ++ (f.extension ++ f.private))))),
+      width-append f.extlangs
+          (f.script ++ (f.region ++ (f.variants ++ (f.extension ++ f.private)))),
       width-append f.script (f.region ++ (f.variants ++ (f.extension ++ f.private))),
       width-append f.region (f.variants ++ (f.extension ++ f.private)),
       width-append f.variants (f.extension ++ f.private),
@@ -115,7 +142,8 @@ place_is f =
 empty-width : (ps : List (List ℕ)) → ps ≡ [] → width ps ≡ 0
 empty-width ps e = ap width e
 
-same_ends : (e f : Ends) → e.language ≡ f.language → e.extlang ≡ f.extlang → e.script ≡ f.script → e.region ≡ f.region
+same_ends : (e f : Ends) → e.language ≡ f.language → e.extlang ≡ f.extlang → e.script ≡ f.script
+    → e.region ≡ f.region
     → e.variant ≡ f.variant → e.extension ≡ f.extension → e ≡ f
 same_ends e f a b c d g h = λ i. record {
   language = a i;
@@ -127,18 +155,28 @@ same_ends e f a b c d g h = λ i. record {
 }
 
 -- one more piece: where the next begins
-pub place-grown : (s : Stage) (f : Flat) (x : List ℕ) → NoneBehind s f → place (grown s f x) ≡ place f + length x + 1
+pub place-grown : (s : Stage) (f : Flat) (x : List ℕ) → NoneBehind s f
+    → place (grown s f x) ≡ place f + length x + 1
 place-grown Start f x h = absurd h
-place-grown LongLanguage f x h = omega (arith, place_is f, place_is (grown LongLanguage f x), width_more f.language x)
-place-grown (Extlangs zero) f x h = omega (arith, place_is f, place_is (grown (Extlangs zero) f x), width_more f.language x)
-place-grown (Extlangs (suc k)) f x h = omega (arith, place_is f, place_is (grown (Extlangs (suc k)) f x), width_more f.extlangs x)
-place-grown Script f x h = omega (arith, place_is f, place_is (grown Script f x), width_more f.script x)
-place-grown Region f x h = omega (arith, place_is f, place_is (grown Region f x), width_more f.region x)
-place-grown Variant f x h = omega (arith, place_is f, place_is (grown Variant f x), width_more f.variants x)
-place-grown Singleton f x h = omega (arith, place_is f, place_is (grown Singleton f x), width_more f.extension x)
-place-grown Extension f x h = omega (arith, place_is f, place_is (grown Extension f x), width_more f.extension x)
+place-grown LongLanguage f x h =
+    omega (arith, place_is f, place_is (grown LongLanguage f x), width_more f.language x)
+place-grown (Extlangs zero) f x h =
+    omega (arith, place_is f, place_is (grown (Extlangs zero) f x), width_more f.language x)
+place-grown (Extlangs (suc k)) f x h =
+    omega (arith, place_is f, place_is (grown (Extlangs (suc k)) f x), width_more f.extlangs x)
+place-grown Script f x h =
+    omega (arith, place_is f, place_is (grown Script f x), width_more f.script x)
+place-grown Region f x h =
+    omega (arith, place_is f, place_is (grown Region f x), width_more f.region x)
+place-grown Variant f x h =
+    omega (arith, place_is f, place_is (grown Variant f x), width_more f.variants x)
+place-grown Singleton f x h =
+    omega (arith, place_is f, place_is (grown Singleton f x), width_more f.extension x)
+place-grown Extension f x h =
+    omega (arith, place_is f, place_is (grown Extension f x), width_more f.extension x)
 place-grown X f x h = omega (arith, place_is f, place_is (grown X f x), width_more f.private x)
-place-grown Private f x h = omega (arith, place_is f, place_is (grown Private f x), width_more f.private x)
+place-grown Private f x h =
+    omega (arith, place_is f, place_is (grown Private f x), width_more f.private x)
 
 -- where the sections end
 module _ (f : Flat) (x : List ℕ) where
@@ -162,7 +200,8 @@ module _ (f : Flat) (x : List ℕ) where
       let p = empty-width f.private h.1.1.1.1.1.1 in
       let is = place_is f in
       let more = width_more f.language x in
-      same_ends _ _ (omega arith) (omega arith) (omega arith) (omega arith) (omega arith) (omega arith)
+      same_ends _ _ (omega arith) (omega arith) (omega arith) (omega arith)
+      (omega arith) (omega arith)
 
   ends-extlangs : NoneBehindExtlangs f
       → ends_of (record f { extlangs = f.extlangs ++ (x ∷ []) })
@@ -202,7 +241,11 @@ module _ (f : Flat) (x : List ℕ) where
 
   ends-region : NoneBehindRegion f
       → ends_of (record f { region = f.region ++ (x ∷ []) })
-      ≡ record (ends_of f) { region = place f + length x; variant = place f + length x; extension = place f + length x }
+      ≡ record (ends_of f) {
+        region = place f + length x;
+        variant = place f + length x;
+        extension = place f + length x;
+      }
   ends-region h =
       let d = empty-width f.variants h.0 in
       let e = empty-width f.extension h.1.0 in
@@ -245,13 +288,33 @@ ends-grown X f x h = refl
 ends-grown Private f x h = refl
 
 -- one more piece is the last
-pub seen-grown : (s : Stage) (f : Flat) (x : List ℕ) → NoneBehind s f → seen (grown s f x) ≡ seen f ++ (x ∷ [])
+pub seen-grown : (s : Stage) (f : Flat) (x : List ℕ) → NoneBehind s f
+    → seen (grown s f x) ≡ seen f ++ (x ∷ [])
 seen-grown Start f x h = absurd h
 seen-grown LongLanguage f x h =
-    simp (append_assoc, append-nil, h.1.0, h.1.1.0, h.1.1.1.0, h.1.1.1.1.0, h.1.1.1.1.1.0, h.1.1.1.1.1.1)
+    simp (
+      append_assoc,
+      append-nil,
+      h.1.0,
+      h.1.1.0,
+      h.1.1.1.0,
+      h.1.1.1.1.0,
+      h.1.1.1.1.1.0,
+      h.1.1.1.1.1.1,
+    )
 seen-grown (Extlangs zero) f x h =
-    simp (append_assoc, append-nil, h.1.0, h.1.1.0, h.1.1.1.0, h.1.1.1.1.0, h.1.1.1.1.1.0, h.1.1.1.1.1.1)
-seen-grown (Extlangs (suc k)) f x h = simp (append_assoc, append-nil, h.0, h.1.0, h.1.1.0, h.1.1.1.0, h.1.1.1.1)
+    simp (
+      append_assoc,
+      append-nil,
+      h.1.0,
+      h.1.1.0,
+      h.1.1.1.0,
+      h.1.1.1.1.0,
+      h.1.1.1.1.1.0,
+      h.1.1.1.1.1.1,
+    )
+seen-grown (Extlangs (suc k)) f x h =
+    simp (append_assoc, append-nil, h.0, h.1.0, h.1.1.0, h.1.1.1.0, h.1.1.1.1)
 seen-grown Script f x h = simp (append_assoc, append-nil, h.0, h.1.0, h.1.1.0, h.1.1.1)
 seen-grown Region f x h = simp (append_assoc, append-nil, h.0, h.1.0, h.1.1)
 seen-grown Variant f x h = simp (append_assoc, append-nil, h.0, h.1)

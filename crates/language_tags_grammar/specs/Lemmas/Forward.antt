@@ -1,16 +1,27 @@
 -- The scanner passes the pieces of a tag's parts, section by section.
-use Rattle.std.proofs.Common.{◌≡◌, ℕ, suc, ◌+◌, ◌<◌, ◌≤◌, Bool, true, false, List, [], ◌∷◌, Result, Ok, Err, length, refl, ap, ◌∙◌, cond, arith, add-one, nat_lt}
+use Rattle.std.proofs.Common.{◌≡◌, ℕ, suc, ◌+◌, ◌<◌, ◌≤◌, Bool, true, false, List, [], ◌∷◌, Result}
+use Rattle.std.proofs.Common.{Ok, Err, length, refl, ap, ◌∙◌, cond, arith, add-one, nat_lt}
 use Rattle.std.specs.Prelude.{◌==◌, ◌&&◌}
 use Rattle.std.specs.Char.{is_ascii_digit, is_ascii_lowercase}
 use Rattle.std.specs.List.{list_all}
 use Rattle.std.specs.Str.{byte}
 use Rattle.std.proofs.lemmas.Bool.Decides.{nat_tests}
-use Rattle.language_tags_grammar.specs.Scan.{and_then, behind_extlang, behind_extlangs, behind_region, behind_script, in_place, is_single, is_small_region, is_small_script, opening, stage_after}
-use Rattle.language_tags_grammar.specs.Shapes.{is_content, is_extlang, is_private, is_singleton, is_small, is_variant}
+use Rattle.language_tags_grammar.specs.Scan.{and_then, behind_extlang, behind_extlangs}
+use Rattle.language_tags_grammar.specs.Scan.{behind_region, behind_script, in_place, is_single}
+use Rattle.language_tags_grammar.specs.Scan.{is_small_region, is_small_script, opening, stage_after}
+use Rattle.language_tags_grammar.specs.Shapes.{is_content, is_extlang, is_private, is_singleton}
+use Rattle.language_tags_grammar.specs.Shapes.{is_small, is_variant}
 use Rattle.language_tags_grammar.specs.declared.error.ParseError.{ParseError}
-use Rattle.language_tags_grammar.specs.declared.error.ParseError.TheVariants.{EmptyExtension, InvalidSubtag, SubtagTooLong, EmptySubtag, TooManyExtlangs}
+use Rattle.language_tags_grammar.specs.declared.error.ParseError.TheVariants.{EmptyExtension}
+use Rattle.language_tags_grammar.specs.declared.error.ParseError.TheVariants.{InvalidSubtag}
+use Rattle.language_tags_grammar.specs.declared.error.ParseError.TheVariants.{SubtagTooLong}
+use Rattle.language_tags_grammar.specs.declared.error.ParseError.TheVariants.{EmptySubtag}
+use Rattle.language_tags_grammar.specs.declared.error.ParseError.TheVariants.{TooManyExtlangs}
 use Rattle.language_tags_grammar.specs.declared.stage.Stage.{Stage}
-use Rattle.language_tags_grammar.specs.declared.stage.Stage.TheVariants.{Start, LongLanguage, Extlangs, Script, Region, Variant, Singleton, Extension, X, Private}
+use Rattle.language_tags_grammar.specs.declared.stage.Stage.TheVariants.{Start, LongLanguage}
+use Rattle.language_tags_grammar.specs.declared.stage.Stage.TheVariants.{Extlangs, Script, Region}
+use Rattle.language_tags_grammar.specs.declared.stage.Stage.TheVariants.{Variant, Singleton}
+use Rattle.language_tags_grammar.specs.declared.stage.Stage.TheVariants.{Extension, X, Private}
 use Rattle.language_tags_grammar.specs.Lemmas.Flat.{Flat, grown}
 
 -- the stage and the sections behind pieces
@@ -18,7 +29,8 @@ abbrev pub run : Stage → Flat → List (List ℕ) → Result (Stage × Flat) P
 run s f [] = Ok (s, f)
 run s f (x ∷ ps) = and_then (λ next. run next (grown next f x) ps) (stage_after s x)
 
-pub run_step : (s next : Stage) (f : Flat) (x : List ℕ) (rest : List (List ℕ)) → stage_after s x ≡ Ok next
+pub run_step : (s next : Stage) (f : Flat) (x : List ℕ) (rest : List (List ℕ))
+    → stage_after s x ≡ Ok next
     → run s f (x ∷ rest) ≡ run next (grown next f x) rest
 run_step s next f x rest e = ap (and_then (λ t. run t (grown t f x) rest)) e
 
@@ -51,13 +63,18 @@ module _ (x : List ℕ) where
   no_region e = ap (λ b. cond b (Ok Region) (behind_region x)) e
 
   no_extlang : (n : ℕ) → is_extlang x ≡ false → behind_extlang n x ≡ behind_extlangs x
-  no_extlang n e = ap (λ b. cond b (cond (nat_lt n 3) (Ok (Extlangs (n + 1))) (Err TooManyExtlangs)) (behind_extlangs x)) e
+  no_extlang n e =
+      ap
+      (λ b. cond b (cond (nat_lt n 3) (Ok (Extlangs (n + 1))) (Err TooManyExtlangs))
+      (behind_extlangs x)) e
 
-  pub to_extlang : (n : ℕ) → is_extlang x ≡ true → n < 3 → stage_after (Extlangs n) x ≡ Ok (Extlangs (suc n))
+  pub to_extlang : (n : ℕ) → is_extlang x ≡ true → n < 3
+      → stage_after (Extlangs n) x ≡ Ok (Extlangs (suc n))
   to_extlang n e less =
       let below : nat_lt n 3 ≡ true = grind (arith, nat_tests) in
       sized (Extlangs n) x (grind (arith, nat_tests)) (grind (arith, nat_tests))
-      ∙ (λ i. cond (e i) (cond (below i) (Ok (Extlangs (add-one n i))) (Err TooManyExtlangs)) (behind_extlangs x))
+      ∙ (λ i. cond (e i) (cond (below i) (Ok (Extlangs (add-one n i))) (Err TooManyExtlangs))
+      (behind_extlangs x))
 
   module _ (e : is_small_script x ≡ true) where
     script_sized : (s : Stage) → stage_after s x ≡ in_place s x
@@ -71,7 +88,8 @@ module _ (x : List ℕ) where
 
     pub to_script : (s : Stage) → 1 ≤ rank s → rank s ≤ 1 → stage_after s x ≡ Ok Script
     to_script LongLanguage a b = script_sized LongLanguage ∙ is_script
-    to_script (Extlangs n) a b = script_sized (Extlangs n) ∙ no_extlang n script-no_extlang ∙ is_script
+    to_script (Extlangs n) a b =
+        script_sized (Extlangs n) ∙ no_extlang n script-no_extlang ∙ is_script
     to_script Start a b = absurd (omega arith)
     to_script Script a b = absurd (omega arith)
     to_script Region a b = absurd (omega arith)
@@ -108,7 +126,8 @@ variant-no_script : (x : List ℕ) → is_variant x ≡ true → is_small_script
 variant-no_script [] e = refl
 variant-no_script (c ∷ x) e = by (length (c ∷ x) == 4) refl
   where
-    by : (b : Bool) → (length (c ∷ x) == 4) ≡ b → (b && (is_ascii_lowercase c && list_all is_ascii_lowercase x)) ≡ false
+    by : (b : Bool) → (length (c ∷ x) == 4) ≡ b
+        → (b && (is_ascii_lowercase c && list_all is_ascii_lowercase x)) ≡ false
     by true four =
         let digit : is_ascii_digit c ≡ true = grind (arith, nat_tests) in
         ap (λ b. b && list_all is_ascii_lowercase x) (digit_letter c digit)
@@ -122,9 +141,11 @@ module _ (x : List ℕ) (e : is_small_region x ≡ true) where
   is_region = ap (λ b. cond b (Ok Region) (behind_region x)) e
 
   pub to_region : (s : Stage) → 1 ≤ rank s → rank s ≤ 2 → stage_after s x ≡ Ok Region
-  to_region LongLanguage a b = region_sized LongLanguage ∙ no_script x (region-no_script x e) ∙ is_region
+  to_region LongLanguage a b =
+      region_sized LongLanguage ∙ no_script x (region-no_script x e) ∙ is_region
   to_region (Extlangs n) a b =
-      region_sized (Extlangs n) ∙ no_extlang x n (region-no_extlang x e) ∙ no_script x (region-no_script x e) ∙ is_region
+      region_sized (Extlangs n) ∙ no_extlang x n (region-no_extlang x e)
+      ∙ no_script x (region-no_script x e) ∙ is_region
   to_region Script a b = region_sized Script ∙ is_region
   to_region Start a b = absurd (omega arith)
   to_region Region a b = absurd (omega arith)
@@ -142,11 +163,13 @@ module _ (x : List ℕ) (e : is_variant x ≡ true) where
   variant_first = ap (λ b. cond b (Ok Variant) (opening x)) e
 
   variant_third : behind_extlangs x ≡ Ok Variant
-  variant_third = no_script x (variant-no_script x e) ∙ no_region x (variant-no_region x e) ∙ variant_first
+  variant_third = no_script x (variant-no_script x e) ∙ no_region x (variant-no_region x e)
+      ∙ variant_first
 
   pub to_variant : (s : Stage) → 1 ≤ rank s → rank s ≤ 4 → stage_after s x ≡ Ok Variant
   to_variant LongLanguage a b = variant_sized LongLanguage ∙ variant_third
-  to_variant (Extlangs n) a b = variant_sized (Extlangs n) ∙ no_extlang x n (variant-no_extlang x e) ∙ variant_third
+  to_variant (Extlangs n) a b =
+      variant_sized (Extlangs n) ∙ no_extlang x n (variant-no_extlang x e) ∙ variant_third
   to_variant Script a b = variant_sized Script ∙ no_region x (variant-no_region x e) ∙ variant_first
   to_variant Region a b = variant_sized Region ∙ variant_first
   to_variant Variant a b = variant_sized Variant ∙ variant_first
@@ -195,7 +218,10 @@ module _ (x : List ℕ) (e : is_content x ≡ true) where
 
   pub to_content : (s : Stage) → 5 ≤ rank s → rank s ≤ 6 → stage_after s x ≡ Ok Extension
   to_content Singleton a b =
-      content_sized Singleton ∙ ap (λ b. cond b (Ok Extension) (cond (is_single x) (Err EmptyExtension) (Err InvalidSubtag))) e
+      content_sized Singleton
+      ∙ ap
+      (λ b. cond b (Ok Extension) (cond (is_single x) (Err EmptyExtension) (Err InvalidSubtag)))
+      e
   to_content Extension a b = content_sized Extension ∙ ap (λ b. cond b (Ok Extension) (opening x)) e
   to_content LongLanguage a b = absurd (omega arith)
   to_content (Extlangs n) a b = absurd (omega arith)

@@ -1,18 +1,36 @@
 -- What the scanner's stage says of the pieces so far, and that each step keeps it.
-use Rattle.std.proofs.Common.{◌≡◌, ℕ, ◌+◌, ◌<◌, ◌≤◌, Bool, true, false, ◌⊎◌, inl, inr, List, [], ◌∷◌, ◌++◌, Option, Some, None, Ok, Err, IfOk, IfSome, length, refl, sym, ap, ◌∙◌, cond, arith, add-one, append_assoc, append-nil, length-append, nat_lt, nat_le, subst}
+use Rattle.std.proofs.Common.{◌≡◌, ℕ, ◌+◌, ◌<◌, ◌≤◌, Bool, true, false, ◌⊎◌, inl, inr, List, []}
+use Rattle.std.proofs.Common.{◌∷◌, ◌++◌, Option, Some, None, Ok, Err, IfOk, IfSome, length, refl}
+use Rattle.std.proofs.Common.{sym, ap, ◌∙◌, cond, arith, add-one, append_assoc, append-nil}
+use Rattle.std.proofs.Common.{length-append, nat_lt, nat_le, subst}
 use Rattle.std.specs.Prelude.{◌==◌, ◌&&◌, not, slice_index}
 use Rattle.std.specs.Char.{is_ascii_lowercase}
 use Rattle.std.specs.List.{AllByRecursion, flat_map, list_all}
 use Rattle.std.specs.Str.{byte}
 use Rattle.std.proofs.lemmas.Bool.Decides.{nat_tests}
-use Rattle.language_tags_grammar.specs.Scan.{at_start, behind_content, behind_extlang, behind_extlangs, behind_region, behind_script, behind_singleton, behind_x, in_place, is_single, is_small_region, is_small_script, opening, stage_after}
-use Rattle.language_tags_grammar.specs.Shapes.{IsExtension, is_content, is_extlang, is_language, is_private, is_singleton, is_small, is_variant}
+use Rattle.language_tags_grammar.specs.Scan.{at_start, behind_content, behind_extlang}
+use Rattle.language_tags_grammar.specs.Scan.{behind_extlangs, behind_region, behind_script}
+use Rattle.language_tags_grammar.specs.Scan.{behind_singleton, behind_x, in_place, is_single}
+use Rattle.language_tags_grammar.specs.Scan.{is_small_region, is_small_script, opening, stage_after}
+use Rattle.language_tags_grammar.specs.Shapes.{IsExtension, is_content, is_extlang, is_language}
+use Rattle.language_tags_grammar.specs.Shapes.{is_private, is_singleton, is_small, is_variant}
 use Rattle.language_tags_grammar.specs.Tag.{Extension as Run, at_most_one, extension_pieces}
 use Rattle.language_tags_grammar.specs.declared.error.ParseError.{ParseError}
-use Rattle.language_tags_grammar.specs.declared.error.ParseError.TheVariants.{EmptyExtension, InvalidSubtag, InvalidLanguage, SubtagTooLong, EmptySubtag, TooManyExtlangs}
+use Rattle.language_tags_grammar.specs.declared.error.ParseError.TheVariants.{EmptyExtension}
+use Rattle.language_tags_grammar.specs.declared.error.ParseError.TheVariants.{InvalidSubtag}
+use Rattle.language_tags_grammar.specs.declared.error.ParseError.TheVariants.{InvalidLanguage}
+use Rattle.language_tags_grammar.specs.declared.error.ParseError.TheVariants.{SubtagTooLong}
+use Rattle.language_tags_grammar.specs.declared.error.ParseError.TheVariants.{EmptySubtag}
+use Rattle.language_tags_grammar.specs.declared.error.ParseError.TheVariants.{TooManyExtlangs}
 use Rattle.language_tags_grammar.specs.declared.stage.Stage.{Stage}
-use Rattle.language_tags_grammar.specs.declared.stage.Stage.TheVariants.{Start, LongLanguage, Extlangs, Script, Region, Variant, Singleton, Extension, X, Private}
-use Rattle.language_tags_grammar.specs.Lemmas.Flat.{Flat, NoneBehind, NoneBehindExtlangs, NoneBehindLanguage, NoneBehindRegion, NoneBehindScript, NoneBehindVariants, NonePrivate, grown, nothing}
+use Rattle.language_tags_grammar.specs.declared.stage.Stage.TheVariants.{Start, LongLanguage}
+use Rattle.language_tags_grammar.specs.declared.stage.Stage.TheVariants.{Extlangs, Script, Region}
+use Rattle.language_tags_grammar.specs.declared.stage.Stage.TheVariants.{Variant, Singleton}
+use Rattle.language_tags_grammar.specs.declared.stage.Stage.TheVariants.{Extension, X, Private}
+use Rattle.language_tags_grammar.specs.Lemmas.Flat.{Flat, NoneBehind, NoneBehindExtlangs}
+use Rattle.language_tags_grammar.specs.Lemmas.Flat.{NoneBehindLanguage, NoneBehindRegion}
+use Rattle.language_tags_grammar.specs.Lemmas.Flat.{NoneBehindScript, NoneBehindVariants}
+use Rattle.language_tags_grammar.specs.Lemmas.Flat.{NonePrivate, grown, nothing}
 
 -- the language and its extlangs
 pub record Head (language extlangs : List (List ℕ)) : Type 0 where
@@ -105,7 +123,8 @@ Leads f x next = Holds next (grown next f x) × NoneBehind next f
 pub and-intro : (a b : Bool) → a ≡ true → b ≡ true → (a && b) ≡ true
 and-intro a b e h = λ i. e i && h i
 
-pub all-more : (test : List ℕ → Bool) (ps : List (List ℕ)) (x : List ℕ) → list_all test ps ≡ true → test x ≡ true
+pub all-more : (test : List ℕ → Bool) (ps : List (List ℕ)) (x : List ℕ) → list_all test ps ≡ true
+    → test x ≡ true
     → list_all test (ps ++ (x ∷ [])) ≡ true
 all-more test [] x h e = grind (arith, nat_tests)
 all-more test (p ∷ ps) x h e =
@@ -115,11 +134,14 @@ all-more test (p ∷ ps) x h e =
     grind (arith, nat_tests)
 
 pub flat_map-append : (es fs : List Run)
-    → flat_map extension_pieces (es ++ fs) ≡ flat_map extension_pieces es ++ flat_map extension_pieces fs
+    → flat_map extension_pieces (es ++ fs) ≡ flat_map extension_pieces es
+    ++ flat_map extension_pieces fs
 flat_map-append [] fs = refl
 flat_map-append (e ∷ es) fs =
     ap (λ ps. extension_pieces e ++ ps) (flat_map-append es fs)
-    ∙ sym (append_assoc (extension_pieces e) (flat_map extension_pieces es) (flat_map extension_pieces fs))
+    ∙ sym
+    (append_assoc (extension_pieces e) (flat_map extension_pieces es)
+    (flat_map extension_pieces fs))
 
 pub each-append : (es fs : List Run) → AllByRecursion IsExtension es → AllByRecursion IsExtension fs
     → AllByRecursion IsExtension (es ++ fs)
@@ -127,11 +149,13 @@ each-append [] fs h g = g
 each-append (e ∷ es) fs h g = (h.0, each-append es fs h.1 g)
 
 -- one more extension
-pub runs-more : (ps : List (List ℕ)) (run : Run) → Runs ps → IsExtension run → Runs (ps ++ extension_pieces run)
+pub runs-more : (ps : List (List ℕ)) (run : Run) → Runs ps → IsExtension run
+    → Runs (ps ++ extension_pieces run)
 runs-more ps run r is = record {
   extensions = r.extensions ++ (run ∷ []);
   are = ap (λ qs. qs ++ extension_pieces run) r.are
-      ∙ ap (λ qs. flat_map extension_pieces r.extensions ++ qs) (sym (append-nil (extension_pieces run)))
+      ∙ ap (λ qs. flat_map extension_pieces r.extensions ++ qs)
+      (sym (append-nil (extension_pieces run)))
       ∙ sym (flat_map-append r.extensions (run ∷ []));
   each = each-append r.extensions (run ∷ []) r.each (is, tt);
 }
@@ -153,8 +177,10 @@ one_of test x e = record { piece = Some x; are = refl; is = e }
 
 -- an extlang is the next one
 leads_next : (n : ℕ) (f : Flat) (x : List ℕ) → NoneBehindExtlangs f
-    → HoldsExtlangs (n + 1) (record f { extlangs = f.extlangs ++ (x ∷ []) }) → Leads f x (Extlangs (n + 1))
-leads_next n f x none held = subst (Leads f x) (ap Extlangs (sym (add-one n))) (rw add-one at held, none)
+    → HoldsExtlangs (n + 1) (record f { extlangs = f.extlangs ++ (x ∷ []) })
+    → Leads f x (Extlangs (n + 1))
+leads_next n f x none held =
+    subst (Leads f x) (ap Extlangs (sym (add-one n))) (rw add-one at held, none)
 
 -- ---- the steps, from the right
 
@@ -163,7 +189,8 @@ module _ (f : Flat) (x : List ℕ) where
   pub opening_leads : Whole f → NonePrivate f → IfOk (opening x) (Leads f x)
   opening_leads w none = by (is_single x) refl
     where
-      then : (c : ℕ) → x ≡ c ∷ [] → is_small c ≡ true → (b : Bool) → (slice_index x 0 == byte "x") ≡ b
+      then : (c : ℕ) → x ≡ c ∷ [] → is_small c ≡ true → (b : Bool)
+          → (slice_index x 0 == byte "x") ≡ b
           → IfOk {E = ParseError} (cond b (Ok X) (Ok Singleton)) (Leads f x)
       then c is small true e =
           let at : c ≡ byte "x" = grind (arith, nat_tests, ap (λ y. slice_index y 0) is) in (
@@ -171,7 +198,9 @@ module _ (f : Flat) (x : List ℕ) where
               before = f;
               whole = w;
               none = none;
-              now = ap (λ ps. record f { private = ps }) (ap (λ ps. ps ++ (x ∷ [])) none ∙ ap (λ y. y ∷ []) (is ∙ ap (λ d. d ∷ []) at));
+              now =
+                  ap (λ ps. record f { private = ps })
+                  (ap (λ ps. ps ++ (x ∷ [])) none ∙ ap (λ y. y ∷ []) (is ∙ ap (λ d. d ∷ []) at));
             },
             tt,
           )
@@ -181,7 +210,9 @@ module _ (f : Flat) (x : List ℕ) where
           whole = w;
           none = none;
           singleton = c;
-          is = (let other : (c == byte "x") ≡ false = ap (λ y. slice_index y 0 == byte "x") (sym is) ∙ e in
+          is =
+              (let other : (c == byte "x") ≡ false =
+              ap (λ y. slice_index y 0 == byte "x") (sym is) ∙ e in
               and-intro (is_small c) (not (c == byte "x")) small (ap not other));
           now = ap (λ y. record f { extension = f.extension ++ (y ∷ []) }) is;
         },
@@ -189,7 +220,9 @@ module _ (f : Flat) (x : List ℕ) where
       )
 
       by : (b : Bool) → is_single x ≡ b
-          → IfOk {E = ParseError} (cond b (cond (slice_index x 0 == byte "x") (Ok X) (Ok Singleton)) (Err InvalidSubtag)) (Leads f x)
+          → IfOk {E = ParseError}
+          (cond b (cond (slice_index x 0 == byte "x") (Ok X) (Ok Singleton))
+          (Err InvalidSubtag)) (Leads f x)
       by true e = let s = single_is x e in then s.0 s.1 s.2 (slice_index x 0 == byte "x") refl
       by false e = tt
 
@@ -223,7 +256,9 @@ module _ (f : Flat) (x : List ℕ) where
           record {
             head = w.head;
             script = w.script;
-            region = subst (λ ps. AtMostOne is_small_region (ps ++ (x ∷ []))) (sym none.0) (one_of is_small_region x e);
+            region =
+                subst (λ ps. AtMostOne is_small_region (ps ++ (x ∷ []))) (sym none.0)
+                (one_of is_small_region x e);
             variants = w.variants;
             runs = w.runs;
           },
@@ -242,7 +277,9 @@ module _ (f : Flat) (x : List ℕ) where
         (
           record {
             head = w.head;
-            script = subst (λ ps. AtMostOne is_small_script (ps ++ (x ∷ []))) (sym none.0) (one_of is_small_script x e);
+            script =
+                subst (λ ps. AtMostOne is_small_script (ps ++ (x ∷ []))) (sym none.0)
+                (one_of is_small_script x e);
             region = w.region;
             variants = w.variants;
             runs = w.runs;
@@ -282,7 +319,9 @@ module _ (f : Flat) (x : List ℕ) where
       then e false more = tt
 
       by : (b : Bool) → is_extlang x ≡ b → IfOk (behind_extlangs x) (Leads f x)
-          → IfOk (cond b (cond (nat_lt n 3) (Ok (Extlangs (n + 1))) (Err TooManyExtlangs)) (behind_extlangs x)) (Leads f x)
+          → IfOk
+          (cond b (cond (nat_lt n 3) (Ok (Extlangs (n + 1))) (Err TooManyExtlangs))
+          (behind_extlangs x)) (Leads f x)
       by true e rest = then e (nat_lt n 3) refl
       by false e rest = rest
 
@@ -294,21 +333,30 @@ module _ (f : Flat) (x : List ℕ) where
           ≡ record h.before { extension = h.before.extension ++ ((h.singleton ∷ []) ∷ x ∷ []) }
       now e =
           ap (λ g. grown Extension g x) e
-          ∙ ap (with_extension h.before) (append_assoc h.before.extension ((h.singleton ∷ []) ∷ []) (x ∷ []))
+          ∙ ap (with_extension h.before)
+          (append_assoc h.before.extension ((h.singleton ∷ []) ∷ []) (x ∷ []))
 
-      then : (b : Bool) → IfOk {E = ParseError} (cond b (Err EmptyExtension) (Err InvalidSubtag)) (Leads f x)
+      then : (b : Bool)
+          → IfOk {E = ParseError} (cond b (Err EmptyExtension) (Err InvalidSubtag)) (Leads f x)
       then true = tt
       then false = tt
 
       by : (b : Bool) → is_content x ≡ b
-          → IfOk (cond b (Ok Extension) (cond (is_single x) (Err EmptyExtension) (Err InvalidSubtag))) (Leads f x)
+          → IfOk
+          (cond b (Ok Extension) (cond (is_single x) (Err EmptyExtension) (Err InvalidSubtag)))
+          (Leads f x)
       by true e = (
         record {
           before = h.before;
           whole = h.whole;
           none = h.none;
           run = record { singleton = h.singleton; content = x ∷ [] };
-          is = record { singleton = h.is; some = omega arith; content = and-intro (is_content x) true e refl };
+          is =
+              record {
+                singleton = h.is;
+                some = omega arith;
+                content = and-intro (is_content x) true e refl;
+              };
           now = now h.now;
         },
         ap (λ g. g.private) h.now ∙ h.none,
@@ -327,7 +375,8 @@ module _ (f : Flat) (x : List ℕ) where
 
   pub behind_content_leads : HoldsExtension f → IfOk (behind_content x) (Leads f x)
   behind_content_leads h =
-      by (is_content x) refl (opening_leads (whole_extension h) (ap (λ g. g.private) h.now ∙ h.none))
+      by (is_content x) refl
+      (opening_leads (whole_extension h) (ap (λ g. g.private) h.now ∙ h.none))
     where
       by : (b : Bool) → is_content x ≡ b → IfOk (opening x) (Leads f x)
           → IfOk (cond b (Ok Extension) (opening x)) (Leads f x)
@@ -353,7 +402,8 @@ module _ (f : Flat) (x : List ℕ) where
   pub behind_x_leads : HoldsX f → IfOk (behind_x x) (Leads f x)
   behind_x_leads h = by (is_private x) refl
     where
-      by : (b : Bool) → is_private x ≡ b → IfOk (cond b (Ok Private) (Err InvalidSubtag)) (Leads f x)
+      by : (b : Bool) → is_private x ≡ b
+          → IfOk (cond b (Ok Private) (Err InvalidSubtag)) (Leads f x)
       by true e = (
         record {
           before = h.before;
@@ -371,7 +421,8 @@ module _ (f : Flat) (x : List ℕ) where
   pub behind_private_leads : HoldsPrivate f → IfOk (behind_x x) (Leads f x)
   behind_private_leads h = by (is_private x) refl
     where
-      by : (b : Bool) → is_private x ≡ b → IfOk (cond b (Ok Private) (Err InvalidSubtag)) (Leads f x)
+      by : (b : Bool) → is_private x ≡ b
+          → IfOk (cond b (Ok Private) (Err InvalidSubtag)) (Leads f x)
       by true e = (
         record {
           before = h.before;
@@ -387,11 +438,14 @@ module _ (f : Flat) (x : List ℕ) where
       by false e = tt
 
 -- the first piece
-pub at_start_leads : (f : Flat) (x : List ℕ) → length x ≤ 8 → f ≡ nothing → IfOk (at_start x) (Leads f x)
+pub at_start_leads : (f : Flat) (x : List ℕ) → length x ≤ 8 → f ≡ nothing
+    → IfOk (at_start x) (Leads f x)
 at_start_leads f x small e =
-    subst (λ g. IfOk (at_start x) (Leads g x)) (sym e) (by (nat_le 2 (length x) && list_all is_ascii_lowercase x) refl)
+    subst (λ g. IfOk (at_start x) (Leads g x)) (sym e)
+    (by (nat_le 2 (length x) && list_all is_ascii_lowercase x) refl)
   where
-    whole : (nat_le 2 (length x) && list_all is_ascii_lowercase x) ≡ true → Whole (record nothing { language = x ∷ [] })
+    whole : (nat_le 2 (length x) && list_all is_ascii_lowercase x) ≡ true
+        → Whole (record nothing { language = x ∷ [] })
     whole e = record {
       head = record {
         name = x;
@@ -410,7 +464,8 @@ at_start_leads f x small e =
     none : NoneBehindLanguage nothing
     none = (refl, (refl, (refl, (refl, (refl, refl)))))
 
-    then : (nat_le 2 (length x) && list_all is_ascii_lowercase x) ≡ true → (b : Bool) → nat_le (length x) 3 ≡ b
+    then : (nat_le 2 (length x) && list_all is_ascii_lowercase x) ≡ true → (b : Bool)
+        → nat_le (length x) 3 ≡ b
         → IfOk {E = ParseError} (cond b (Ok (Extlangs 0)) (Ok LongLanguage)) (Leads nothing x)
     then e true short = (
       record { whole = whole e; none = none.1; count = refl; short = grind (arith, nat_tests) },
@@ -419,12 +474,15 @@ at_start_leads f x small e =
     then e false long = ((whole e, none), (refl, none))
 
     by : (b : Bool) → (nat_le 2 (length x) && list_all is_ascii_lowercase x) ≡ b
-        → IfOk (cond b (cond (nat_le (length x) 3) (Ok (Extlangs 0)) (Ok LongLanguage)) (Err InvalidLanguage)) (Leads nothing x)
+        → IfOk
+        (cond b (cond (nat_le (length x) 3) (Ok (Extlangs 0)) (Ok LongLanguage))
+        (Err InvalidLanguage)) (Leads nothing x)
     by true e = then e (nat_le (length x) 3) refl
     by false e = tt
 
 -- each step leads to a stage that holds
-pub in_place_leads : (s : Stage) (f : Flat) (x : List ℕ) → length x ≤ 8 → Holds s f → IfOk (in_place s x) (Leads f x)
+pub in_place_leads : (s : Stage) (f : Flat) (x : List ℕ) → length x ≤ 8 → Holds s f
+    → IfOk (in_place s x) (Leads f x)
 in_place_leads Start f x small h = at_start_leads f x small h
 in_place_leads LongLanguage f x small h = behind_extlangs_leads f x h.0 h.1.1
 in_place_leads (Extlangs n) f x small h = behind_extlang_leads f x n h
@@ -436,7 +494,8 @@ in_place_leads Extension f x small h = behind_content_leads f x h
 in_place_leads X f x small h = behind_x_leads f x h
 in_place_leads Private f x small h = behind_private_leads f x h
 
-pub stage_after_leads : (s : Stage) (f : Flat) (x : List ℕ) → Holds s f → IfOk (stage_after s x) (Leads f x)
+pub stage_after_leads : (s : Stage) (f : Flat) (x : List ℕ) → Holds s f
+    → IfOk (stage_after s x) (Leads f x)
 stage_after_leads s f x h = by (length x == 0) (nat_lt 8 (length x)) refl
   where
     by : (a b : Bool) → nat_lt 8 (length x) ≡ b

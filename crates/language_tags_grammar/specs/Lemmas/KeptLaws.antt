@@ -1,19 +1,28 @@
 -- The text of a tag's parts, cut where the parts end, gives the parts back.
-use Rattle.std.proofs.Common.{◌≡◌, ℕ, ◌+◌, ◌-◌, ◌<◌, Bool, true, false, List, [], ◌∷◌, ◌++◌, Option, Some, None, length, take, drop, refl, sym, ap, ◌∙◌, cond, arith, append_assoc, append-nil, length-append, subst}
+use Rattle.std.proofs.Common.{◌≡◌, ℕ, ◌+◌, ◌-◌, ◌<◌, Bool, true, false, List, [], ◌∷◌, ◌++◌, Option}
+use Rattle.std.proofs.Common.{Some, None, length, take, drop, refl, sym, ap, ◌∙◌, cond, arith}
+use Rattle.std.proofs.Common.{append_assoc, append-nil, length-append, subst}
 use Rattle.std.specs.Prelude.{◌==◌, ◌&&◌, ◌||◌, IfSome, IsTrue}
-use Rattle.std.specs.Char.{is_ascii_alphanumeric, is_ascii_digit, is_ascii_lowercase, is_ascii_uppercase}
+use Rattle.std.specs.Char.{is_ascii_alphanumeric, is_ascii_digit, is_ascii_lowercase}
+use Rattle.std.specs.Char.{is_ascii_uppercase}
 use Rattle.std.specs.List.{AllByRecursion, flat_map, list_all, onto_first}
 use Rattle.std.specs.Str.{IsAscii, byte}
 use Rattle.std.proofs.lemmas.Bool.Decides.{nat_tests}
 use Rattle.std.proofs.lemmas.List.{drop_at, take_at}
 use Rattle.std.proofs.lemmas.Str.{IsAscii-append}
 use Rattle.std.proofs.lemmas.Str.Ascii.{IsAscii-cons, IsAscii-nil}
-use Rattle.language_tags_grammar.specs.Kept.{EndAt, KeepsParts, between, first_piece, grouped, part_pieces, parts_at, put}
+use Rattle.language_tags_grammar.specs.Kept.{EndAt, KeepsParts, between, first_piece, grouped}
+use Rattle.language_tags_grammar.specs.Kept.{part_pieces, parts_at, put}
 use Rattle.language_tags_grammar.specs.Pieces.{dashed, is_dash, joined, pieces}
-use Rattle.language_tags_grammar.specs.Shapes.{AreParts, IsExtension, is_content, is_extlang, is_private, is_region, is_script, is_small, is_variant}
-use Rattle.language_tags_grammar.specs.Tag.{Extension as Run, Parts, at_most_one, behind_language, extension_pieces, private_pieces, written}
+use Rattle.language_tags_grammar.specs.Shapes.{AreParts, IsExtension, is_content, is_extlang}
+use Rattle.language_tags_grammar.specs.Shapes.{is_private, is_region, is_script, is_small}
+use Rattle.language_tags_grammar.specs.Shapes.{is_variant}
+use Rattle.language_tags_grammar.specs.Tag.{Extension as Run, Parts, at_most_one, behind_language}
+use Rattle.language_tags_grammar.specs.Tag.{extension_pieces, private_pieces, written}
 use Rattle.language_tags_grammar.specs.declared.ends.Ends.{Ends}
-use Rattle.language_tags_grammar.specs.Lemmas.PartsLaws.{all-weaker, content-small, extlang-small, language-small, private-small, variant-small}
+use Rattle.language_tags_grammar.specs.Lemmas.PartsLaws.{all-weaker, content-small, extlang-small}
+use Rattle.language_tags_grammar.specs.Lemmas.PartsLaws.{language-small, private-small}
+use Rattle.language_tags_grammar.specs.Lemmas.PartsLaws.{variant-small}
 
 -- ---- joined pieces
 
@@ -24,7 +33,8 @@ joined-dashed x (y ∷ ps) = ap (λ t. x ++ (byte "-" ∷ t)) (joined-dashed y p
 pub dashed-append : (ps qs : List (List ℕ)) → dashed (ps ++ qs) ≡ dashed ps ++ dashed qs
 dashed-append [] qs = refl
 dashed-append (p ∷ ps) qs =
-    ap (λ t. byte "-" ∷ t) (ap (λ t. p ++ t) (dashed-append ps qs) ∙ sym (append_assoc p (dashed ps) (dashed qs)))
+    ap (λ t. byte "-" ∷ t)
+    (ap (λ t. p ++ t) (dashed-append ps qs) ∙ sym (append_assoc p (dashed ps) (dashed qs)))
 
 -- ---- pieces without a dash
 
@@ -42,7 +52,9 @@ cut_dash [] t e = refl
 cut_dash (c ∷ x) t e =
     let head : is_ascii_alphanumeric c ≡ true = grind (arith, nat_tests) in
     let tail : IsClean x = grind (arith, nat_tests) in
-    ap (λ b. cond b ([] ∷ pieces (x ++ (byte "-" ∷ t))) (onto_first c (pieces (x ++ (byte "-" ∷ t))))) (no-dash c head)
+    ap
+    (λ b. cond b ([] ∷ pieces (x ++ (byte "-" ∷ t)))
+    (onto_first c (pieces (x ++ (byte "-" ∷ t))))) (no-dash c head)
     ∙ ap (onto_first c) (cut_dash x t tail)
 
 one_piece : (x : List ℕ) → IsClean x → pieces x ≡ x ∷ []
@@ -50,9 +62,11 @@ one_piece [] e = refl
 one_piece (c ∷ x) e =
     let head : is_ascii_alphanumeric c ≡ true = grind (arith, nat_tests) in
     let tail : IsClean x = grind (arith, nat_tests) in
-    ap (λ b. cond b ([] ∷ pieces x) (onto_first c (pieces x))) (no-dash c head) ∙ ap (onto_first c) (one_piece x tail)
+    ap (λ b. cond b ([] ∷ pieces x) (onto_first c (pieces x))) (no-dash c head)
+    ∙ ap (onto_first c) (one_piece x tail)
 
-pub pieces-dashed : (x : List ℕ) (ps : List (List ℕ)) → IsClean x → AreClean ps → pieces (x ++ dashed ps) ≡ x ∷ ps
+pub pieces-dashed : (x : List ℕ) (ps : List (List ℕ)) → IsClean x → AreClean ps
+    → pieces (x ++ dashed ps) ≡ x ∷ ps
 pieces-dashed x [] e h = ap pieces (append-nil x) ∙ one_piece x e
 pieces-dashed x (y ∷ ps) e h =
     let head : IsClean y = grind (arith, nat_tests) in
@@ -107,10 +121,13 @@ script-clean [] e = refl
 script-clean (c ∷ x) e =
     let first : is_ascii_uppercase c ≡ true = grind (arith, nat_tests) in
     let rest : list_all is_ascii_lowercase x ≡ true = grind (arith, nat_tests) in
-    λ i. upper-clean c first i && all-weaker is_ascii_lowercase is_ascii_alphanumeric lower-clean x rest i
+    λ i. upper-clean c first i
+    && all-weaker is_ascii_lowercase is_ascii_alphanumeric lower-clean x rest i
 
 pub region-clean : (x : List ℕ) → is_region x ≡ true → IsClean x
-region-clean x e = by (length x == 2) (list_all is_ascii_uppercase x) (length x == 3) (list_all is_ascii_digit x) refl refl e
+region-clean x e =
+    by (length x == 2) (list_all is_ascii_uppercase x) (length x == 3)
+    (list_all is_ascii_digit x) refl refl e
   where
     by : (a b c d : Bool) → list_all is_ascii_uppercase x ≡ b → list_all is_ascii_digit x ≡ d
         → ((a && b) || (c && d)) ≡ true → IsClean x
@@ -122,22 +139,28 @@ region-clean x e = by (length x == 2) (list_all is_ascii_uppercase x) (length x 
     by false b true false g h e = cc
     by false b false d g h e = cc
 
-pub runs-clean : (rs : List Run) → AllByRecursion IsExtension rs → AreClean (flat_map extension_pieces rs)
+pub runs-clean : (rs : List Run) → AllByRecursion IsExtension rs
+    → AreClean (flat_map extension_pieces rs)
 runs-clean [] h = refl
 runs-clean (r ∷ rs) h =
     let small : is_small r.singleton ≡ true = grind (arith, nat_tests, h.0.singleton) in
     let first : IsClean (r.singleton ∷ []) = λ i. small-clean r.singleton small i && true in
-    let content = each-clean is_content (λ x e. smalls-clean x (content-small x e)) r.content h.0.content in
-    λ i. first i && clean-append r.content (flat_map extension_pieces rs) content (runs-clean rs h.1) i
+    let content =
+    each-clean is_content (λ x e. smalls-clean x (content-small x e)) r.content h.0.content in
+    λ i. first i
+    && clean-append r.content (flat_map extension_pieces rs) content (runs-clean rs h.1) i
 
-pub private-clean : (ps : List (List ℕ)) → list_all is_private ps ≡ true → AreClean (private_pieces ps)
+pub private-clean : (ps : List (List ℕ)) → list_all is_private ps ≡ true
+    → AreClean (private_pieces ps)
 private-clean [] e = refl
-private-clean (x ∷ ps) e = each-clean is_private (λ y h. smalls-clean y (private-small y h)) (x ∷ ps) e
+private-clean (x ∷ ps) e =
+    each-clean is_private (λ y h. smalls-clean y (private-small y h)) (x ∷ ps) e
 
 -- ---- extensions
 
 pub grouped-content : (xs ps : List (List ℕ)) → list_all is_content xs ≡ true
-    → grouped (xs ++ ps) ≡ record { front = xs ++ (grouped ps).front; extensions = (grouped ps).extensions }
+    → grouped (xs ++ ps)
+    ≡ record { front = xs ++ (grouped ps).front; extensions = (grouped ps).extensions }
 grouped-content [] ps e = refl
 grouped-content ([] ∷ xs) ps e = absurd (grind (arith, nat_tests))
 grouped-content ((c ∷ []) ∷ xs) ps e = absurd (grind (arith, nat_tests))
@@ -149,7 +172,8 @@ pub grouped-runs : (rs : List Run) → AllByRecursion IsExtension rs
     → grouped (flat_map extension_pieces rs) ≡ record { front = []; extensions = rs }
 grouped-runs [] h = refl
 grouped-runs (r ∷ rs) h =
-    ap (put (r.singleton ∷ [])) (grouped-content r.content (flat_map extension_pieces rs) h.0.content
+    ap (put (r.singleton ∷ []))
+    (grouped-content r.content (flat_map extension_pieces rs) h.0.content
     ∙ (λ i. record {
       front = r.content ++ (grouped-runs rs h.1 i).front;
       extensions = (grouped-runs rs h.1 i).extensions;
@@ -193,7 +217,8 @@ module _ (p : Parts) where
       ∙ ap (λ t. E ++ t) (dashed-append (at_most_one p.script) _
       ∙ ap (λ t. S ++ t) (dashed-append (at_most_one p.region) _
       ∙ ap (λ t. R ++ t) (dashed-append p.variants _
-      ∙ ap (λ t. V ++ t) (dashed-append (flat_map extension_pieces p.extensions) (private_pieces p.private))))))
+      ∙ ap (λ t. V ++ t)
+      (dashed-append (flat_map extension_pieces p.extensions) (private_pieces p.private))))))
 
   module _ (ends : Ends) (at : EndAt p ends) where
     abbrev pub T : List ℕ
@@ -207,7 +232,8 @@ module _ (p : Parts) where
 
     pub at-script : between ends.extlang ends.script T ≡ S
     at-script =
-        ap (between ends.extlang ends.script) (sym (append_assoc p.language E (S ++ (R ++ (V ++ (X ++ P))))))
+        ap (between ends.extlang ends.script)
+        (sym (append_assoc p.language E (S ++ (R ++ (V ++ (X ++ P))))))
         ∙ between-middle (p.language ++ E) S (R ++ (V ++ (X ++ P))) ends.extlang ends.script
         (omega (arith, at.language, at.extlang, length-append p.language E)) at.script
 
@@ -215,7 +241,14 @@ module _ (p : Parts) where
     at-region =
         ap (between ends.script ends.region) (simp append_assoc)
         ∙ between-middle ((p.language ++ E) ++ S) R (V ++ (X ++ P)) ends.script ends.region
-        (omega (arith, at.language, at.extlang, at.script, length-append p.language E, length-append (p.language ++ E) S)) at.region
+        (omega (
+          arith,
+          at.language,
+          at.extlang,
+          at.script,
+          length-append p.language E,
+          length-append (p.language ++ E) S,
+        )) at.region
 
     pub at-variants : between ends.region ends.variant T ≡ V
     at-variants =
@@ -282,26 +315,41 @@ module _ (p : Parts) where
         ∙ (λ i. record {
           language = at-language i;
           extlangs = (ap part_pieces at-extlangs
-              ∙ part_pieces-dashed p.extlangs (each-clean is_extlang (λ x e. smalls-clean x (extlang-small x e)) p.extlangs h.extlangs)) i;
+              ∙ part_pieces-dashed p.extlangs
+              (each-clean is_extlang
+              (λ x e. smalls-clean x (extlang-small x e)) p.extlangs h.extlangs)) i;
           script = (ap (λ t. first_piece (part_pieces t)) at-script
-              ∙ ap first_piece (part_pieces-dashed (at_most_one p.script) (one-clean is_script script-clean p.script h.script))
+              ∙ ap first_piece
+              (part_pieces-dashed (at_most_one p.script)
+              (one-clean is_script script-clean p.script h.script))
               ∙ first-one p.script) i;
           region = (ap (λ t. first_piece (part_pieces t)) at-region
-              ∙ ap first_piece (part_pieces-dashed (at_most_one p.region) (one-clean is_region region-clean p.region h.region))
+              ∙ ap first_piece
+              (part_pieces-dashed (at_most_one p.region)
+              (one-clean is_region region-clean p.region h.region))
               ∙ first-one p.region) i;
           variants = (ap part_pieces at-variants
-              ∙ part_pieces-dashed p.variants (each-clean is_variant (λ x e. smalls-clean x (variant-small x e)) p.variants h.variants)) i;
+              ∙ part_pieces-dashed p.variants
+              (each-clean is_variant
+              (λ x e. smalls-clean x (variant-small x e)) p.variants h.variants)) i;
           extensions = (ap (λ t. (grouped (part_pieces t)).extensions) at-extensions
-              ∙ ap (λ ps. (grouped ps).extensions) (part_pieces-dashed (flat_map extension_pieces p.extensions) (runs-clean p.extensions h.extensions))
+              ∙ ap (λ ps. (grouped ps).extensions)
+              (part_pieces-dashed (flat_map extension_pieces p.extensions)
+              (runs-clean p.extensions h.extensions))
               ∙ ap (λ g. g.extensions) (grouped-runs p.extensions h.extensions)) i;
           private = (ap (λ t. drop 1 (part_pieces t)) at-private
-              ∙ ap (drop 1) (part_pieces-dashed (private_pieces p.private) (private-clean p.private h.private))
+              ∙ ap (drop 1)
+              (part_pieces-dashed (private_pieces p.private)
+              (private-clean p.private h.private))
               ∙ drop-private p.private) i;
         })
 
     -- such a text is kept
-    pub keeps : AreParts p → KeepsParts (joined (written p)) ends (parts_at ends (joined (written p)))
-    keeps h = subst (KeepsParts (joined (written p)) ends) (sym (parts_at-text h)) (record { shapes = h; text_is = refl; ends_are = at })
+    pub keeps : AreParts p
+        → KeepsParts (joined (written p)) ends (parts_at ends (joined (written p)))
+    keeps h =
+        subst (KeepsParts (joined (written p)) ends) (sym (parts_at-text h))
+        (record { shapes = h; text_is = refl; ends_are = at })
 
 -- ---- a tag's text is ASCII
 
@@ -320,14 +368,17 @@ dashed-ascii [] h = IsAscii-nil
 dashed-ascii (x ∷ ps) h =
     let head : IsClean x = grind (arith, nat_tests) in
     let tail : AreClean ps = grind (arith, nat_tests) in
-    IsAscii-cons 45 (x ++ dashed ps) (omega arith) (IsAscii-append x (dashed ps) (clean-ascii x head) (dashed-ascii ps tail))
+    IsAscii-cons 45 (x ++ dashed ps) (omega arith)
+    (IsAscii-append x (dashed ps) (clean-ascii x head) (dashed-ascii ps tail))
 
 pub behind-clean : (p : Parts) → AreParts p → AreClean (behind_language p)
 behind-clean p h =
-    clean-append p.extlangs _ (each-clean is_extlang (λ x e. smalls-clean x (extlang-small x e)) p.extlangs h.extlangs)
+    clean-append p.extlangs _
+    (each-clean is_extlang (λ x e. smalls-clean x (extlang-small x e)) p.extlangs h.extlangs)
     (clean-append (at_most_one p.script) _ (one-clean is_script script-clean p.script h.script)
     (clean-append (at_most_one p.region) _ (one-clean is_region region-clean p.region h.region)
-    (clean-append p.variants _ (each-clean is_variant (λ x e. smalls-clean x (variant-small x e)) p.variants h.variants)
+    (clean-append p.variants _
+    (each-clean is_variant (λ x e. smalls-clean x (variant-small x e)) p.variants h.variants)
     (clean-append (flat_map extension_pieces p.extensions) _ (runs-clean p.extensions h.extensions)
     (private-clean p.private h.private)))))
 
@@ -337,7 +388,8 @@ language-clean p h = smalls-clean p.language (language-small p.language h.langua
 pub print-ascii : (p : Parts) → AreParts p → IsAscii (joined (written p))
 print-ascii p h =
     subst IsAscii (sym (joined-dashed p.language (behind_language p)))
-    (IsAscii-append p.language (dashed (behind_language p)) (clean-ascii p.language (language-clean p h))
+    (IsAscii-append p.language (dashed (behind_language p))
+    (clean-ascii p.language (language-clean p h))
     (dashed-ascii (behind_language p) (behind-clean p h)))
 
 -- the pieces of a tag's text

@@ -1,7 +1,10 @@
 -- The sections of a tag's parts, in lower case, and the parts of sections.
-use Rattle.std.proofs.Common.{◌≡◌, ℕ, ◌≤◌, Bool, true, false, ◌⊎◌, inl, inr, List, [], ◌∷◌, ◌++◌, Option, Some, None, length, refl, sym, ap, ◌∙◌, arith, append_assoc, append-nil, map}
+use Rattle.std.proofs.Common.{◌≡◌, ℕ, ◌≤◌, Bool, true, false, ◌⊎◌, inl, inr, List, [], ◌∷◌, ◌++◌}
+use Rattle.std.proofs.Common.{Option, Some, None, length, refl, sym, ap, ◌∙◌, arith, append_assoc}
+use Rattle.std.proofs.Common.{append-nil, map}
 use Rattle.std.specs.Prelude.{◌==◌, ◌&&◌, ◌||◌, IfSome, IsTrue}
-use Rattle.std.specs.Char.{is_ascii_digit, is_ascii_lowercase, is_ascii_uppercase, to_ascii_lowercase, to_ascii_uppercase}
+use Rattle.std.specs.Char.{is_ascii_digit, is_ascii_lowercase, is_ascii_uppercase}
+use Rattle.std.specs.Char.{to_ascii_lowercase, to_ascii_uppercase}
 use Rattle.std.specs.List.{AllByRecursion, flat_map, list_all}
 use Rattle.std.specs.Option.{option_map}
 use Rattle.std.specs.Str.{byte}
@@ -9,14 +12,20 @@ use Rattle.std.proofs.lemmas.Bool.Decides.{nat_tests}
 use Rattle.std.proofs.lemmas.List.{length-map, map-append}
 use Rattle.language_tags_grammar.specs.Pieces.{lowercase, titlecase, uppercase}
 use Rattle.language_tags_grammar.specs.Scan.{is_small_region, is_small_script}
-use Rattle.language_tags_grammar.specs.Shapes.{AreParts, IsExtension, is_content, is_extlang, is_language, is_private, is_region, is_script, is_small, is_variant}
-use Rattle.language_tags_grammar.specs.Tag.{Extension as Run, Parts, at_most_one, extension_pieces, private_pieces, written}
+use Rattle.language_tags_grammar.specs.Shapes.{AreParts, IsExtension, is_content, is_extlang}
+use Rattle.language_tags_grammar.specs.Shapes.{is_language, is_private, is_region, is_script}
+use Rattle.language_tags_grammar.specs.Shapes.{is_small, is_variant}
+use Rattle.language_tags_grammar.specs.Tag.{Extension as Run, Parts, at_most_one, extension_pieces}
+use Rattle.language_tags_grammar.specs.Tag.{private_pieces, written}
 use Rattle.language_tags_grammar.specs.declared.stage.Stage.{Stage}
 use Rattle.language_tags_grammar.specs.declared.stage.Stage.TheVariants.{Start, X}
 use Rattle.language_tags_grammar.specs.Lemmas.Flat.{Flat, nothing, seen}
 use Rattle.language_tags_grammar.specs.Lemmas.Holds.{Whole}
 use Rattle.language_tags_grammar.specs.Lemmas.Forward.{rank, run, to_x}
-use Rattle.language_tags_grammar.specs.Lemmas.Runs.{Passes, named, only, pass_extlangs, pass_language, pass_more, pass_private, pass_region, pass_runs, pass_script, pass_variants, passes_both, with_private}
+use Rattle.language_tags_grammar.specs.Lemmas.Runs.{Passes, named, only, pass_extlangs}
+use Rattle.language_tags_grammar.specs.Lemmas.Runs.{pass_language, pass_more, pass_private}
+use Rattle.language_tags_grammar.specs.Lemmas.Runs.{pass_region, pass_runs, pass_script}
+use Rattle.language_tags_grammar.specs.Lemmas.Runs.{pass_variants, passes_both, with_private}
 
 -- ---- case
 
@@ -51,7 +60,8 @@ pub digits-small : (x : List ℕ) → list_all is_ascii_digit x ≡ true → lis
 digits-small = all-weaker is_ascii_digit is_small digit-small
 
 -- pieces that are small each stay
-module _ (test : List ℕ → Bool) (small : (x : List ℕ) → test x ≡ true → list_all is_small x ≡ true) where
+module _ (test : List ℕ → Bool)
+    (small : (x : List ℕ) → test x ≡ true → list_all is_small x ≡ true) where
   pub all-lowercase : (ps : List (List ℕ)) → list_all test ps ≡ true → map lowercase ps ≡ ps
   all-lowercase [] e = refl
   all-lowercase (x ∷ ps) e =
@@ -83,12 +93,16 @@ runs-lowercase [] h = refl
 runs-lowercase (r ∷ rs) h =
     let small : is_small r.singleton ≡ true = grind (arith, nat_tests, h.0.singleton) in
     map-append lowercase (extension_pieces r) (flat_map extension_pieces rs)
-    ∙ (λ i. ((small-lower r.singleton small i ∷ []) ∷ all-lowercase is_content content-small r.content h.0.content i)
+    ∙ (λ i.
+    ((small-lower r.singleton small i ∷ [])
+    ∷ all-lowercase is_content content-small r.content h.0.content i)
     ++ runs-lowercase rs h.1 i)
 
-pub private-lowercase : (ps : List (List ℕ)) → list_all is_private ps ≡ true → map lowercase (private_pieces ps) ≡ private_pieces ps
+pub private-lowercase : (ps : List (List ℕ)) → list_all is_private ps ≡ true
+    → map lowercase (private_pieces ps) ≡ private_pieces ps
 private-lowercase [] e = refl
-private-lowercase (p ∷ ps) e = ap (λ qs. (byte "x" ∷ []) ∷ qs) (all-lowercase is_private private-small (p ∷ ps) e)
+private-lowercase (p ∷ ps) e =
+    ap (λ qs. (byte "x" ∷ []) ∷ qs) (all-lowercase is_private private-small (p ∷ ps) e)
 
 -- ---- the script and the region
 
@@ -133,7 +147,8 @@ script-title (c ∷ x) e =
     λ i. back i ∷ (ap lowercase once ∙ once) i
 
 -- a test of characters, and what changes them
-module _ (p q : ℕ → Bool) (f g : ℕ → ℕ) (passes : (c : ℕ) → p c ≡ true → q (f c) ≡ true) (back : (c : ℕ) → p c ≡ true → g (f c) ≡ c) where
+module _ (p q : ℕ → Bool) (f g : ℕ → ℕ) (passes : (c : ℕ) → p c ≡ true → q (f c) ≡ true)
+    (back : (c : ℕ) → p c ≡ true → g (f c) ≡ c) where
   pub all-map : (x : List ℕ) → list_all p x ≡ true → list_all q (map f x) ≡ true
   all-map [] e = refl
   all-map (c ∷ x) e =
@@ -148,13 +163,15 @@ module _ (p q : ℕ → Bool) (f g : ℕ → ℕ) (passes : (c : ℕ) → p c �
       let tail : list_all p x ≡ true = grind (arith, nat_tests) in
       λ i. back c head i ∷ map-back x tail i
 
-upper-lower : (c : ℕ) → is_ascii_uppercase c ≡ true → is_ascii_lowercase (to_ascii_lowercase c) ≡ true
+upper-lower : (c : ℕ) → is_ascii_uppercase c ≡ true
+    → is_ascii_lowercase (to_ascii_lowercase c) ≡ true
 upper-lower c e = grind (arith, nat_tests)
 
 upper-back : (c : ℕ) → is_ascii_uppercase c ≡ true → to_ascii_uppercase (to_ascii_lowercase c) ≡ c
 upper-back c e = grind (arith, nat_tests)
 
-lower-upper : (c : ℕ) → is_ascii_lowercase c ≡ true → is_ascii_uppercase (to_ascii_uppercase c) ≡ true
+lower-upper : (c : ℕ) → is_ascii_lowercase c ≡ true
+    → is_ascii_uppercase (to_ascii_uppercase c) ≡ true
 lower-upper c e = grind (arith, nat_tests)
 
 lower-back : (c : ℕ) → is_ascii_lowercase c ≡ true → to_ascii_lowercase (to_ascii_uppercase c) ≡ c
@@ -178,10 +195,12 @@ module _ (p : ℕ → Bool) (x : List ℕ) where
   is_region_by = (length x == 2 && list_all p x) || (length x == 3 && list_all is_ascii_digit x)
 
 region-cases : (p : ℕ → Bool) (x : List ℕ) → is_region_by p x ≡ true
-    → (((length x == 2) ≡ true) × (list_all p x ≡ true)) ⊎ (((length x == 3) ≡ true) × (list_all is_ascii_digit x ≡ true))
+    → (((length x == 2) ≡ true) × (list_all p x ≡ true))
+    ⊎ (((length x == 3) ≡ true) × (list_all is_ascii_digit x ≡ true))
 region-cases p x e = by (length x == 2) (list_all p x) (length x == 3) (list_all is_ascii_digit x) e
   where
-    by : (a b c d : Bool) → ((a && b) || (c && d)) ≡ true → ((a ≡ true) × (b ≡ true)) ⊎ ((c ≡ true) × (d ≡ true))
+    by : (a b c d : Bool) → ((a && b) || (c && d)) ≡ true
+        → ((a ≡ true) × (b ≡ true)) ⊎ ((c ≡ true) × (d ≡ true))
     by true true c d e = inl (refl, refl)
     by true false true true e = inr (refl, refl)
     by true false true false e = cc
@@ -190,58 +209,78 @@ region-cases p x e = by (length x == 2) (list_all p x) (length x == 3) (list_all
     by false b true false e = cc
     by false b false d e = cc
 
-two-region : (p : ℕ → Bool) (x : List ℕ) → (length x == 2) ≡ true → list_all p x ≡ true → is_region_by p x ≡ true
+two-region : (p : ℕ → Bool) (x : List ℕ) → (length x == 2) ≡ true → list_all p x ≡ true
+    → is_region_by p x ≡ true
 two-region p x a b = λ i. (a i && b i) || (length x == 3 && list_all is_ascii_digit x)
 
-three-region : (p : ℕ → Bool) (x : List ℕ) → (length x == 3) ≡ true → list_all is_ascii_digit x ≡ true → is_region_by p x ≡ true
-three-region p x a b = (λ i. (length x == 2 && list_all p x) || (a i && b i)) ∙ or-true (length x == 2 && list_all p x)
+three-region : (p : ℕ → Bool) (x : List ℕ) → (length x == 3) ≡ true
+    → list_all is_ascii_digit x ≡ true → is_region_by p x ≡ true
+three-region p x a b =
+    (λ i. (length x == 2 && list_all p x) || (a i && b i)) ∙ or-true (length x == 2 && list_all p x)
   where
     or-true : (b : Bool) → (b || true) ≡ true
     or-true true = refl
     or-true false = refl
 
-same-length : (f : ℕ → ℕ) (n : ℕ) (x : List ℕ) → (length x == n) ≡ true → (length (map f x) == n) ≡ true
+same-length : (f : ℕ → ℕ) (n : ℕ) (x : List ℕ) → (length x == n) ≡ true
+    → (length (map f x) == n) ≡ true
 same-length f n x e = ap (λ m. m == n) (length-map x f) ∙ e
 
 pub region-lowercase : (x : List ℕ) → is_region x ≡ true → is_small_region (lowercase x) ≡ true
 region-lowercase x e = by (region-cases is_ascii_uppercase x e)
   where
-    by : (((length x == 2) ≡ true) × (list_all is_ascii_uppercase x ≡ true)) ⊎ (((length x == 3) ≡ true) × (list_all is_ascii_digit x ≡ true))
+    by : (((length x == 2) ≡ true) × (list_all is_ascii_uppercase x ≡ true))
+        ⊎ (((length x == 3) ≡ true) × (list_all is_ascii_digit x ≡ true))
         → is_small_region (lowercase x) ≡ true
-    by (inl two) = two-region is_ascii_lowercase (lowercase x) (same-length to_ascii_lowercase 2 x two.0)
-        (all-map is_ascii_uppercase is_ascii_lowercase to_ascii_lowercase to_ascii_uppercase upper-lower upper-back x two.1)
-    by (inr three) = three-region is_ascii_lowercase (lowercase x) (same-length to_ascii_lowercase 3 x three.0)
-        (all-map is_ascii_digit is_ascii_digit to_ascii_lowercase to_ascii_uppercase digit-lower digit-lower-back x three.1)
+    by (inl two) =
+        two-region is_ascii_lowercase (lowercase x) (same-length to_ascii_lowercase 2 x two.0)
+        (all-map is_ascii_uppercase is_ascii_lowercase to_ascii_lowercase to_ascii_uppercase
+        upper-lower upper-back x two.1)
+    by (inr three) =
+        three-region is_ascii_lowercase (lowercase x) (same-length to_ascii_lowercase 3 x three.0)
+        (all-map is_ascii_digit is_ascii_digit to_ascii_lowercase to_ascii_uppercase digit-lower
+        digit-lower-back x three.1)
 
 pub region-uppercase : (x : List ℕ) → is_small_region x ≡ true → is_region (uppercase x) ≡ true
 region-uppercase x e = by (region-cases is_ascii_lowercase x e)
   where
-    by : (((length x == 2) ≡ true) × (list_all is_ascii_lowercase x ≡ true)) ⊎ (((length x == 3) ≡ true) × (list_all is_ascii_digit x ≡ true))
+    by : (((length x == 2) ≡ true) × (list_all is_ascii_lowercase x ≡ true))
+        ⊎ (((length x == 3) ≡ true) × (list_all is_ascii_digit x ≡ true))
         → is_region (uppercase x) ≡ true
-    by (inl two) = two-region is_ascii_uppercase (uppercase x) (same-length to_ascii_uppercase 2 x two.0)
-        (all-map is_ascii_lowercase is_ascii_uppercase to_ascii_uppercase to_ascii_lowercase lower-upper lower-back x two.1)
-    by (inr three) = three-region is_ascii_uppercase (uppercase x) (same-length to_ascii_uppercase 3 x three.0)
-        (all-map is_ascii_digit is_ascii_digit to_ascii_uppercase to_ascii_lowercase digit-upper digit-upper-back x three.1)
+    by (inl two) =
+        two-region is_ascii_uppercase (uppercase x) (same-length to_ascii_uppercase 2 x two.0)
+        (all-map is_ascii_lowercase is_ascii_uppercase to_ascii_uppercase to_ascii_lowercase
+        lower-upper lower-back x two.1)
+    by (inr three) =
+        three-region is_ascii_uppercase (uppercase x) (same-length to_ascii_uppercase 3 x three.0)
+        (all-map is_ascii_digit is_ascii_digit to_ascii_uppercase to_ascii_lowercase digit-upper
+        digit-upper-back x three.1)
 
 pub region-upper : (x : List ℕ) → is_region x ≡ true → uppercase (lowercase x) ≡ x
 region-upper x e = by (region-cases is_ascii_uppercase x e)
   where
-    by : (((length x == 2) ≡ true) × (list_all is_ascii_uppercase x ≡ true)) ⊎ (((length x == 3) ≡ true) × (list_all is_ascii_digit x ≡ true))
+    by : (((length x == 2) ≡ true) × (list_all is_ascii_uppercase x ≡ true))
+        ⊎ (((length x == 3) ≡ true) × (list_all is_ascii_digit x ≡ true))
         → uppercase (lowercase x) ≡ x
     by (inl two) =
-        map-back is_ascii_uppercase is_ascii_lowercase to_ascii_lowercase to_ascii_uppercase upper-lower upper-back x two.1
+        map-back is_ascii_uppercase is_ascii_lowercase to_ascii_lowercase to_ascii_uppercase
+        upper-lower upper-back x two.1
     by (inr three) =
-        map-back is_ascii_digit is_ascii_digit to_ascii_lowercase to_ascii_uppercase digit-lower digit-lower-back x three.1
+        map-back is_ascii_digit is_ascii_digit to_ascii_lowercase to_ascii_uppercase digit-lower
+        digit-lower-back x three.1
 
 pub region-lower : (x : List ℕ) → is_small_region x ≡ true → lowercase (uppercase x) ≡ x
 region-lower x e = by (region-cases is_ascii_lowercase x e)
   where
-    by : (((length x == 2) ≡ true) × (list_all is_ascii_lowercase x ≡ true)) ⊎ (((length x == 3) ≡ true) × (list_all is_ascii_digit x ≡ true))
+    by : (((length x == 2) ≡ true) × (list_all is_ascii_lowercase x ≡ true))
+        ⊎ (((length x == 3) ≡ true) × (list_all is_ascii_digit x ≡ true))
         → lowercase (uppercase x) ≡ x
     by (inl two) =
-        map-back is_ascii_lowercase is_ascii_uppercase to_ascii_uppercase to_ascii_lowercase lower-upper lower-back x two.1
+        map-back is_ascii_lowercase is_ascii_uppercase to_ascii_uppercase to_ascii_lowercase
+        lower-upper lower-back x two.1
     by (inr three) =
-        map-back is_ascii_digit is_ascii_digit to_ascii_uppercase to_ascii_lowercase digit-upper digit-upper-back x three.1
+        map-back is_ascii_digit is_ascii_digit to_ascii_uppercase to_ascii_lowercase digit-upper
+        digit-upper-back x three.1
 
 -- ---- the sections of parts
 
@@ -256,7 +295,8 @@ flat p = record {
   private = private_pieces p.private;
 }
 
-one-lowercase : (o : Option (List ℕ)) → map lowercase (at_most_one o) ≡ at_most_one (option_map lowercase o)
+one-lowercase : (o : Option (List ℕ))
+    → map lowercase (at_most_one o) ≡ at_most_one (option_map lowercase o)
 one-lowercase None = refl
 one-lowercase (Some x) = refl
 
@@ -275,29 +315,40 @@ written-lowercase p h =
     ∙ ap (λ y. map lowercase r ++ y) (map-append lowercase vs (xs ++ ps)
     ∙ ap (λ y. map lowercase vs ++ y) (map-append lowercase xs ps))))) i)
     ∙ (λ i. p.language ∷ (all-lowercase is_extlang extlang-small es h.extlangs i
-    ++ (one-lowercase p.script i ++ (one-lowercase p.region i ++ (all-lowercase is_variant variant-small vs h.variants i
+    ++ (one-lowercase p.script i
+    ++ (one-lowercase p.region i ++ (all-lowercase is_variant variant-small vs h.variants i
     ++ (runs-lowercase p.extensions h.extensions i ++ private-lowercase p.private h.private i))))))
 
-script-fits : (o : Option (List ℕ)) → IfSome o (λ s. IsTrue (is_script s)) → IfSome (option_map lowercase o) (λ x. is_small_script x ≡ true)
+script-fits : (o : Option (List ℕ)) → IfSome o (λ s. IsTrue (is_script s))
+    → IfSome (option_map lowercase o) (λ x. is_small_script x ≡ true)
 script-fits None h = tt
 script-fits (Some s) h = script-lowercase s h
 
-region-fits : (o : Option (List ℕ)) → IfSome o (λ s. IsTrue (is_region s)) → IfSome (option_map lowercase o) (λ x. is_small_region x ≡ true)
+region-fits : (o : Option (List ℕ)) → IfSome o (λ s. IsTrue (is_region s))
+    → IfSome (option_map lowercase o) (λ x. is_small_region x ≡ true)
 region-fits None h = tt
 region-fits (Some s) h = region-lowercase s h
 
 -- the scanner passes the parts' pieces, and what it then has are their sections
 module _ (p : Parts) (h : AreParts p) where
   front : Passes 1 5 (named p.language) (only p.language)
-      (p.extlangs ++ (at_most_one (option_map lowercase p.script) ++ (at_most_one (option_map lowercase p.region)
+      (p.extlangs
+      ++ (at_most_one (option_map lowercase p.script)
+      ++ (at_most_one (option_map lowercase p.region)
       ++ (p.variants ++ flat_map extension_pieces p.extensions)))) (with_private (flat p) [])
   front =
       let a = pass_extlangs p.language p.extlangs h.extlangs h.few h.short in
-      let b = pass_script a.stage _ (option_map lowercase p.script) refl a.above a.below (script-fits p.script h.script) in
-      let c = pass_region b.stage _ (option_map lowercase p.region) refl b.above b.below (region-fits p.region h.region) in
+      let b =
+      pass_script a.stage _ (option_map lowercase p.script) refl a.above a.below
+      (script-fits p.script h.script) in
+      let c =
+      pass_region b.stage _ (option_map lowercase p.region) refl b.above b.below
+      (region-fits p.region h.region) in
       let d = pass_variants p.variants c.stage _ c.above (omega (arith, c.below)) h.variants in
       let e = pass_runs p.extensions d.stage _ d.above (omega (arith, d.below)) h.extensions in
-      passes_both 1 1 1 5 _ _ _ _ _ _ a (passes_both 1 2 1 5 _ _ _ _ _ _ b (passes_both 1 3 1 5 _ _ _ _ _ _ c (passes_both 1 4 1 5 _ _ _ _ _ _ d e)))
+      passes_both 1 1 1 5 _ _ _ _ _ _ a
+      (passes_both 1 2 1 5 _ _ _ _ _ _ b
+      (passes_both 1 3 1 5 _ _ _ _ _ _ c (passes_both 1 4 1 5 _ _ _ _ _ _ d e)))
 
 -- what stands behind the language
 abbrev pub behind : Flat → List (List ℕ)
@@ -311,19 +362,24 @@ pub data IsEnd (s : Stage) : Type 0 where
 pub record Parsed (p : Parts) : Type 0 where
   pub stage : Stage
   pub is_end : IsEnd stage
-  pub runs : (rest : List (List ℕ)) → run Start nothing (seen (flat p) ++ rest) ≡ run stage (flat p) rest
+  pub runs : (rest : List (List ℕ))
+      → run Start nothing (seen (flat p) ++ rest) ≡ run stage (flat p) rest
 
 -- the stage is one before private use where there is none
 pub record ParsedFront (p : Parts) : Type 0 where
   pub stage : Stage
   pub above : 1 ≤ rank stage
   pub below : rank stage ≤ 5
-  pub runs : (rest : List (List ℕ)) → run Start nothing (seen (with_private (flat p) []) ++ rest) ≡ run stage (with_private (flat p) []) rest
+  pub runs : (rest : List (List ℕ))
+      → run Start nothing (seen (with_private (flat p) []) ++ rest)
+      ≡ run stage (with_private (flat p) []) rest
 
-five_and_one : (a b c d e rest : List (List ℕ)) → (a ++ (b ++ (c ++ (d ++ (e ++ []))))) ++ rest ≡ (a ++ (b ++ (c ++ (d ++ e)))) ++ rest
+five_and_one : (a b c d e rest : List (List ℕ))
+    → (a ++ (b ++ (c ++ (d ++ (e ++ []))))) ++ rest ≡ (a ++ (b ++ (c ++ (d ++ e)))) ++ rest
 five_and_one a b c d e rest = ap (λ y. (a ++ (b ++ (c ++ (d ++ y)))) ++ rest) (append-nil e)
 
-six : (a b c d e g rest : List (List ℕ)) → (a ++ (b ++ (c ++ (d ++ (e ++ g))))) ++ rest ≡ (a ++ (b ++ (c ++ (d ++ e)))) ++ (g ++ rest)
+six : (a b c d e g rest : List (List ℕ))
+    → (a ++ (b ++ (c ++ (d ++ (e ++ g))))) ++ rest ≡ (a ++ (b ++ (c ++ (d ++ e)))) ++ (g ++ rest)
 six a b c d e g rest = simp append_assoc
 
 pub parsed_front : (p : Parts) → AreParts p → ParsedFront p
@@ -334,32 +390,47 @@ parsed_front p h =
       below = f.below;
       runs = λ rest.
           pass_language p.language h.language (behind (with_private (flat p) []) ++ rest)
-          ∙ ap (run (named p.language) (only p.language)) (five_and_one p.extlangs (at_most_one (option_map lowercase p.script))
-          (at_most_one (option_map lowercase p.region)) p.variants (flat_map extension_pieces p.extensions) rest)
+          ∙ ap (run (named p.language) (only p.language))
+          (five_and_one p.extlangs (at_most_one (option_map lowercase p.script))
+          (at_most_one (option_map lowercase p.region)) p.variants
+          (flat_map extension_pieces p.extensions) rest)
           ∙ f.runs rest;
     }
 
-private-passes : (ps : List (List ℕ)) (s : Stage) (f : Flat) → 1 ≤ rank s → rank s ≤ 5 → f.private ≡ [] → list_all is_private ps ≡ true
-    → (t : Stage) × IsEnd t × ((rest : List (List ℕ)) → run s f (private_pieces ps ++ rest) ≡ run t (with_private f (private_pieces ps)) rest)
-private-passes [] s f a b none e = (s, in_front a b, λ rest. ap (λ q. run s (with_private f q) rest) none)
+private-passes : (ps : List (List ℕ)) (s : Stage) (f : Flat) → 1 ≤ rank s → rank s ≤ 5
+    → f.private ≡ [] → list_all is_private ps ≡ true
+    → (t : Stage) × IsEnd t
+    × ((rest : List (List ℕ))
+    → run s f (private_pieces ps ++ rest) ≡ run t (with_private f (private_pieces ps)) rest)
+private-passes [] s f a b none e =
+    (s, in_front a b, λ rest. ap (λ q. run s (with_private f q) rest) none)
 private-passes (x ∷ ps) s f a b none e =
-    let first = pass_private (x ∷ ps) X (with_private f (f.private ++ ((byte "x" ∷ []) ∷ []))) (omega arith) (inr (omega arith)) e (omega arith) in
+    let first =
+    pass_private (x ∷ ps) X (with_private f (f.private ++ ((byte "x" ∷ []) ∷ []))) (omega arith)
+    (inr (omega arith)) e (omega arith) in
     let all = pass_more 8 8 s X f (byte "x" ∷ []) (x ∷ ps) _ (to_x s a b) first in (
       all.stage,
       in_private (omega (arith, all.above, all.below)),
-      λ rest. all.runs rest ∙ ap (λ q. run all.stage (with_private f ((q ++ ((byte "x" ∷ []) ∷ [])) ++ (x ∷ ps))) rest) none,
+      λ rest. all.runs rest
+          ∙ ap
+          (λ q. run all.stage (with_private f ((q ++ ((byte "x" ∷ []) ∷ [])) ++ (x ∷ ps))) rest)
+          none,
     )
 
 pub parsed : (p : Parts) → AreParts p → Parsed p
 parsed p h =
     let f = front p h in
-    let g = private-passes p.private f.stage (with_private (flat p) []) f.above f.below refl h.private in record {
+    let g =
+    private-passes p.private f.stage
+    (with_private (flat p) []) f.above f.below refl h.private in record {
       stage = g.0;
       is_end = g.1;
       runs = λ rest.
           pass_language p.language h.language (behind (flat p) ++ rest)
-          ∙ ap (run (named p.language) (only p.language)) (six p.extlangs (at_most_one (option_map lowercase p.script))
-          (at_most_one (option_map lowercase p.region)) p.variants (flat_map extension_pieces p.extensions) (private_pieces p.private) rest)
+          ∙ ap (run (named p.language) (only p.language))
+          (six p.extlangs (at_most_one (option_map lowercase p.script))
+          (at_most_one (option_map lowercase p.region)) p.variants
+          (flat_map extension_pieces p.extensions) (private_pieces p.private) rest)
           ∙ f.runs (private_pieces p.private ++ rest)
           ∙ g.2 rest;
     }

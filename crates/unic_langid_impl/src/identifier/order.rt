@@ -3,7 +3,9 @@
 ghost use Rattle.std.specs.Prelude.{Some, refl};
 ghost use Rattle.std.specs.Cmp.{partial_equiv_from_equiv};
 ghost use Rattle.unic_langid_impl.specs.Order.{identifier_cmp, identifier_eq, identifier_writes};
-ghost use Rattle.unic_langid_impl.specs.OrderLaws.{identifier_cmp-eq, identifier_cmp_po, identifier_cmp_total, identifier_eq-writes, identifier_eq_equiv};
+ghost use Rattle.unic_langid_impl.specs.OrderLaws.{identifier_cmp-eq, identifier_cmp_po};
+ghost use Rattle.unic_langid_impl.specs.OrderLaws.{identifier_cmp_total, identifier_eq-writes};
+ghost use Rattle.unic_langid_impl.specs.OrderLaws.{identifier_eq_equiv};
 
 use crate::LanguageIdentifier;
 use std::cmp::Ordering;

@@ -3,8 +3,12 @@ ghost use Rattle.writeable_core.specs.declared.text.TextRow.{TextRow};
 ghost use Rattle.unic_langid_impl.specs.Likely.{Triple, identifier_of};
 ghost use Rattle.unic_langid_impl.specs.Identifier.{print};
 ghost use Rattle.std.specs.declared.cmp.Ordering.TheVariants.{Equal};
-ghost use Rattle.unic_langid_impl.specs.KeyLaws.{language_pairs_tie, options_tie, pairs_tie, texts_tie};
-ghost use Rattle.unic_langid_impl.specs.LikelyRows.{LanguageCell, LanguageKey, LanguageRegionKey, LanguageScriptKey, PrintsTriple, RegionCell, RegionKey, ScriptCell, ScriptKey, ScriptRegionKey, ThereCell};
+ghost use Rattle.unic_langid_impl.specs.KeyLaws.{language_pairs_tie, options_tie, pairs_tie};
+ghost use Rattle.unic_langid_impl.specs.KeyLaws.{texts_tie};
+ghost use Rattle.unic_langid_impl.specs.LikelyRows.{LanguageCell, LanguageKey, LanguageRegionKey};
+ghost use Rattle.unic_langid_impl.specs.LikelyRows.{LanguageScriptKey, PrintsTriple, RegionCell};
+ghost use Rattle.unic_langid_impl.specs.LikelyRows.{RegionKey, ScriptCell, ScriptKey};
+ghost use Rattle.unic_langid_impl.specs.LikelyRows.{ScriptRegionKey, ThereCell};
 
 use crate::parser::parse_language_identifier;
 use crate::subtags::{Language, Region, Script};

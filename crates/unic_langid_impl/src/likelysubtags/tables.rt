@@ -1,6 +1,8 @@
 ghost use Rattle.std.specs.Prelude.{◌≡◌, None, IfErr, IfOk, OnOk, option_and_then};
 ghost use Rattle.unic_langid_impl.specs.Identifier.{text_cmp};
-ghost use Rattle.unic_langid_impl.specs.LikelyFaults.{AreLanguagesOf, AreScriptsOf, AreTablesOf, IsFirstFault, IsLanguagesFault, IsScriptsFault, IsTableFault};
+ghost use Rattle.unic_langid_impl.specs.LikelyFaults.{AreLanguagesOf, AreScriptsOf, AreTablesOf};
+ghost use Rattle.unic_langid_impl.specs.LikelyFaults.{IsFirstFault, IsLanguagesFault};
+ghost use Rattle.unic_langid_impl.specs.LikelyFaults.{IsScriptsFault, IsTableFault};
 ghost use Rattle.unic_langid_impl.specs.LikelyRows.{AreSound, IsTableOf};
 
 use super::rows::{Key, LikelyError, LikelyRows, Subtags, value};

@@ -4,7 +4,8 @@ ghost use Rattle.tinystr.specs.Shapes.{is_region, is_script};
 ghost use Rattle.tinystr.specs.Text.{titlecase};
 ghost use Rattle.unic_langid_impl.specs.Reading.{IsParserFault, Reads, Refuses, id_of};
 ghost use Rattle.unic_langid_impl.specs.Subtags.{uppercase};
-ghost use Rattle.unic_langid_impl.specs.Taking.{BeginsWithNoVariant, TakesVariants, left_behind, taken};
+ghost use Rattle.unic_langid_impl.specs.Taking.{BeginsWithNoVariant, TakesVariants, left_behind};
+ghost use Rattle.unic_langid_impl.specs.Taking.{taken};
 
 use crate::identifier::ascending;
 use crate::parser::SubtagPieces;

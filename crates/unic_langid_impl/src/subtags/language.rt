@@ -1,9 +1,11 @@
-ghost use Rattle.std.specs.Prelude.{◌≡◌, ◌≢◌, ◌↔◌, ◌⊎◌, ℕ, List, Option, Some, None, IsTrue, IfOk, IfErr, OnErr, IfSome, option_and_then};
+ghost use Rattle.std.specs.Prelude.{◌≡◌, ◌≢◌, ◌↔◌, ◌⊎◌, ℕ, List, Option, Some, None, IsTrue, IfOk};
+ghost use Rattle.std.specs.Prelude.{IfErr, OnErr, IfSome, option_and_then};
 ghost use Rattle.std.specs.Int.{w64};
 ghost use Rattle.std.specs.Option.{option_copied, option_map};
 ghost use Rattle.std.specs.Result.{OkIff};
 ghost use Rattle.std.specs.Str.{chars};
-ghost use Rattle.unic_langid_impl.specs.Subtags.{Fits, IsLanguage, IsLanguageOrNone, is_language, language_of, language_text, lowercase, raw};
+ghost use Rattle.unic_langid_impl.specs.Subtags.{Fits, IsLanguage, IsLanguageOrNone, is_language};
+ghost use Rattle.unic_langid_impl.specs.Subtags.{language_of, language_text, lowercase, raw};
 
 use super::raw::{number_u64, without_zeros};
 use crate::ParserError;

@@ -19,7 +19,8 @@ fn decimal_text<N: Integer>(number: N, buffer: &mut Buffer) -> &str
 pub(super) fn write_number<N: Integer, S: Sink>(number: N, sink: &mut S) -> Result<(), SinkError>
     ensures ok { OnOk result (S.took sink.old (N.text number) sink.new) }
     ensures err { OnErr result (TookPrefix S.took sink.old (N.text number) sink.new) }
-    ensures cause { HasCause (S.faults sink.old) (S.faults sink.new) (S.takes_memory sink.old) result }
+    ensures cause { HasCause (S.faults sink.old) (S.faults sink.new)
+        (S.takes_memory sink.old) result }
 {
     let mut buffer = Buffer::new();
     sink.push_str(decimal_text(number, &mut buffer))?;

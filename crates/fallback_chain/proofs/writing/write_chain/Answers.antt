@@ -7,22 +7,27 @@ use Rattle.fallback_chain.proofs.writing.write_chain.Goals as goal
 pub returns-in_err-write_to-clause-err : goal.returns-in_err-write_to-clause-err
 returns-in_err-write_to-clause-err g c =
     on_err c.from_residual.result
-    (front_first g.S.Sink.took c.args.fallbacker.now c.args.locale c.args.sink.now c.write_to.new.sink
-    c.get.result.now c.args.steps (c.get.ensures ∙ ap (λ w. w.reached.locale) c.walk_from-walk.ensures)
+    (front_first g.S.Sink.took c.args.fallbacker.now c.args.locale c.args.sink.now
+    c.write_to.new.sink
+    c.get.result.now c.args.steps
+    (c.get.ensures ∙ ap (λ w. w.reached.locale) c.walk_from-walk.ensures)
     c.in_err-write_to.ensures.err)
 
 pub loop-step-init : goal.loop-step-init
 loop-step-init g c = record {
   here = c.walk_from-walk.ensures;
   taken =
-      taken_first g.S.Sink.took c.args.fallbacker.now c.args.locale c.args.sink.now c.write_to.new.sink
+      taken_first g.S.Sink.took c.args.fallbacker.now c.args.locale c.args.sink.now
+      c.write_to.new.sink
       c.get.result.now (c.get.ensures ∙ ap (λ w. w.reached.locale) c.walk_from-walk.ensures)
       c.in_ok-write_to.ensures.ok;
 }
 
 pub returns-in_err-write_behind_space-clause-err : goal.returns-in_err-write_behind_space-clause-err
 returns-in_err-write_behind_space-clause-err g c =
-    let here = c.advance.ensures c.args.fallbacker.now c.args.locale c.loop-step._step c.loop-step.invariant.here in
+    let here =
+    c.advance.ensures c.args.fallbacker.now c.args.locale c.loop-step._step
+    c.loop-step.invariant.here in
     on_err c.from_residual-in_err-write_behind_space.result
     (front_next g.S.Sink.took c.args.fallbacker.now c.args.locale g.met.S.Sink.took_both
     c.args.sink.now c.loop-step.sink c.write_behind_space.new.sink
@@ -32,7 +37,9 @@ returns-in_err-write_behind_space-clause-err g c =
 
 pub loop-step-preserved : goal.loop-step-preserved
 loop-step-preserved g c =
-    let here = c.advance.ensures c.args.fallbacker.now c.args.locale c.loop-step._step c.loop-step.invariant.here in
+    let here =
+    c.advance.ensures c.args.fallbacker.now c.args.locale c.loop-step._step
+    c.loop-step.invariant.here in
     record {
       here = here;
       taken =

@@ -10,5 +10,6 @@ same_items (m ∷ items) = ap (λ ys. m ∷ ys) (same_items items)
 
 pub returns : goal.returns
 returns c = λ p items.
-    ap (λ (ys : List (List Mark)). characters (marked_joined p (map characters items) ys)) (sym (same_items items))
+    ap (λ (ys : List (List Mark)). characters (marked_joined p (map characters items) ys))
+    (sym (same_items items))
     ∙ joined_characters p items characters (λ m. m) (λ m. refl)

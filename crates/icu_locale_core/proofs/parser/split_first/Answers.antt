@@ -6,12 +6,14 @@ use Rattle.icu_locale_core.proofs.parser.split_first.Goals as goal
 
 pub returns-in-Some-clause-first : goal.returns-in-Some-clause-first
 returns-in-Some-clause-first c =
-    let found = find_char 45 c.args.text.now (Some c.in-Some.dash) c.in-Some.ensures.cases (lit< tt) in
+    let found =
+    find_char 45 c.args.text.now (Some c.in-Some.dash) c.in-Some.ensures.cases (lit< tt) in
     c.split_at.ensures.front ∙ before_dash_is _ _ (omega (arith, found.0)) found.2 (λ _. found.1)
 
 pub returns-in-Some-clause-rest : goal.returns-in-Some-clause-rest
 returns-in-Some-clause-rest c =
-    let found = find_char 45 c.args.text.now (Some c.in-Some.dash) c.in-Some.ensures.cases (lit< tt) in
+    let found =
+    find_char 45 c.args.text.now (Some c.in-Some.dash) c.in-Some.ensures.cases (lit< tt) in
     c.split_at.ensures.back ∙ from_dash_is _ _ (omega (arith, found.0)) found.2 (λ _. found.1)
 
 pub returns-in-None-clause-first : goal.returns-in-None-clause-first

@@ -1,4 +1,5 @@
-use Rattle.icu_locale_fallback.proofs.WalkLaws.{StaysAtUnknown-holds, StaysUnknown-holds, NeverRepeats-holds}
+use Rattle.icu_locale_fallback.proofs.WalkLaws.{StaysAtUnknown-holds, StaysUnknown-holds}
+use Rattle.icu_locale_fallback.proofs.WalkLaws.{NeverRepeats-holds}
 use Rattle.icu_locale_fallback.proofs.laws.walk_that_ends_never_repeats.Goals as goal
 
 pub returns-clause-rests : goal.returns-clause-rests

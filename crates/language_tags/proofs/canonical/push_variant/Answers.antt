@@ -11,7 +11,8 @@ returns-then-contains c =
     let old = string_bytes c.args.text.now in
     let there : list_any (bytes_eq c.args.variant.now) (pieces old) ≡ true =
     ap (λ t. list_any (bytes_eq c.args.variant.now) (pieces t)) (sym c.as_str.ensures.value)
-    ∙ ap (list_any (bytes_eq c.args.variant.now)) (sym c.new.ensures) ∙ sym c.contains.ensures ∙ c.if-contains.true in record {
+    ∙ ap (list_any (bytes_eq c.args.variant.now)) (sym c.new.ensures) ∙ sym c.contains.ensures
+    ∙ c.if-contains.true in record {
       text = stays-text old c.args.variant.now there;
       pieces = stays-pieces old c.args.variant.now there;
     }
@@ -21,8 +22,13 @@ returns c =
     let old = string_bytes c.args.text.now in
     let there : list_any (bytes_eq c.args.variant.now) (pieces old) ≡ false =
     ap (λ t. list_any (bytes_eq c.args.variant.now) (pieces t)) (sym c.as_str.ensures.value)
-    ∙ ap (list_any (bytes_eq c.args.variant.now)) (sym c.new.ensures) ∙ sym c.contains.ensures ∙ c.if-contains.false in record {
-      text = on_ok_weaker c.push_part.result (λ h. grows-text old c.args.variant.now (string_bytes c.push_part.new.text) there h) c.push_part.ensures;
+    ∙ ap (list_any (bytes_eq c.args.variant.now)) (sym c.new.ensures) ∙ sym c.contains.ensures
+    ∙ c.if-contains.false in record {
+      text =
+          on_ok_weaker c.push_part.result
+          (λ h. grows-text old c.args.variant.now (string_bytes c.push_part.new.text) there h)
+          c.push_part.ensures;
       pieces = on_ok_weaker c.push_part.result
-          (λ h. grows-pieces old c.args.variant.now (string_bytes c.push_part.new.text) c.requires there h) c.push_part.ensures;
+          (λ h. grows-pieces old c.args.variant.now
+          (string_bytes c.push_part.new.text) c.requires there h) c.push_part.ensures;
     }

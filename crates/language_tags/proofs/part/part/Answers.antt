@@ -4,4 +4,5 @@ use Rattle.language_tags.proofs.part.part.Goals as goal
 
 pub returns-else-start-end : goal.returns-else-start-end
 returns-else-start-end c =
-    part_is c.args.start c.args.end c.args.text.now c.range.result.now (omega arith) c.requires.within c.range.ensures.value
+    part_is c.args.start c.args.end c.args.text.now c.range.result.now
+    (omega arith) c.requires.within c.range.ensures.value

@@ -11,17 +11,23 @@ loop-subtag-init c =
     )
 
 pub returns-in-None-next : goal.returns-in-None-next
-returns-in-None-next c = (λ same. c.loop-subtag.invariant.0 (agree_none _ _ c.in-None-next.ensures.steps.0), λ h. refl)
+returns-in-None-next c =
+    (λ same. c.loop-subtag.invariant.0 (agree_none _ _ c.in-None-next.ensures.steps.0), λ h. refl)
 
 pub returns-then-ne : goal.returns-then-ne
 returns-then-ne c = (
   λ same. cc,
-  λ h. absurd (agree_differs _ _ _ _ _ _ c.in-Some.ensures.steps c.in-Some-next.ensures.steps c.if-ne.ensures (c.loop-subtag.invariant.1 h)),
+  λ h.
+      absurd
+      (agree_differs _ _ _ _ _ _ c.in-Some.ensures.steps c.in-Some-next.ensures.steps
+      c.if-ne.ensures (c.loop-subtag.invariant.1 h)),
 )
 
 pub loop-subtag-preserved : goal.loop-subtag-preserved
 loop-subtag-preserved c =
-    let step = agree_step _ _ _ _ _ _ c.in-Some.ensures.steps c.in-Some-next.ensures.steps c.if-ne.ensures in
+    let step =
+    agree_step _ _ _ _ _ _ c.in-Some.ensures.steps c.in-Some-next.ensures.steps
+    c.if-ne.ensures in
     (λ h. c.loop-subtag.invariant.0 (step.0 h), λ h. step.1 (c.loop-subtag.invariant.1 h))
 
 pub returns : goal.returns

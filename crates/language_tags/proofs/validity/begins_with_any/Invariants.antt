@@ -9,7 +9,8 @@ use Rattle.language_tags.proofs.validity.begins_with_any.Given as goal
 abbrev pub invariant-loop-prefix : goal.invariant-loop-prefix
 invariant-loop-prefix l =
     shadow (Utf8 l.rest)
-    × (list_any (begins l.text) (slice_split is_space l.rest) ≡ list_any (begins l.text) (slice_split is_space l.fn.prefixes))
+    × (list_any (begins l.text) (slice_split is_space l.rest)
+    ≡ list_any (begins l.text) (slice_split is_space l.fn.prefixes))
 
 abbrev pub decreases-loop-prefix : goal.decreases-loop-prefix
 decreases-loop-prefix l = length (slice_split is_space l.rest)

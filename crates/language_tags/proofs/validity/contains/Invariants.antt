@@ -5,4 +5,5 @@ use Rattle.language_tags.proofs.validity.contains.Given as goal
 
 -- what is left has the piece exactly where all have
 abbrev pub invariant-loop-other : goal.invariant-loop-other
-invariant-loop-other l = list_any (bytes_eq l.piece) l.other-iterator ≡ list_any (bytes_eq l.piece) l.fn.pieces
+invariant-loop-other l =
+    list_any (bytes_eq l.piece) l.other-iterator ≡ list_any (bytes_eq l.piece) l.fn.pieces

@@ -7,5 +7,6 @@ use Rattle.language_tags_grammar.proofs.grandfathered.find_without_case.Given as
 -- none of the tags before is the text
 abbrev pub invariant-loop-tag : goal.invariant-loop-tag
 invariant-loop-tag l =
-    find (λ tag. bytes_eq (lowercase tag) (lowercase l.text)) (map (λ tag. tag.now) (drop l.tag-index l.tags))
+    find (λ tag. bytes_eq (lowercase tag) (lowercase l.text))
+    (map (λ tag. tag.now) (drop l.tag-index l.tags))
     ≡ find (λ tag. bytes_eq (lowercase tag) (lowercase l.text)) (map (λ tag. tag.now) l.tags)

@@ -10,6 +10,7 @@ pub loop-piece-init : goal.loop-piece-init
 loop-piece-init c =
     let text = c.args.text.now in
     let all : c.into_iter-piece-iterator.result ≡ pieces text = search rules in record {
-      answer = ap (scanned_from Start 0 no_ends) (ap (map lowercase) all ∙ sym (pieces-lowercase text));
+      answer =
+          ap (scanned_from Start 0 no_ends) (ap (map lowercase) all ∙ sym (pieces-lowercase text));
       left = zero-add _ ∙ ap (λ ps. length (dashed ps)) all ∙ length-dashed text;
     }

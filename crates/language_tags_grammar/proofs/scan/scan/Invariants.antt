@@ -6,6 +6,7 @@ use Rattle.language_tags_grammar.proofs.scan.scan.Given as goal
 -- what is left to scan gives the answer, and has as many bytes
 abbrev pub invariant-loop-piece : goal.invariant-loop-piece
 invariant-loop-piece l = record {
-  answer : scanned_from l.stage l.at l.ends (map lowercase l.piece-iterator) ≡ scanned (pieces (lowercase l.text));
+  answer : scanned_from l.stage l.at l.ends (map lowercase l.piece-iterator)
+      ≡ scanned (pieces (lowercase l.text));
   left : l.at + length (dashed l.piece-iterator) ≡ length l.text + 1;
 }

@@ -13,11 +13,18 @@ returns-then-is_cased-2 c =
     let both : FirstPair ends t c.requires.script c.requires.region c.min-capital.result cap
     × SecondPair ends t c.requires.script c.requires.region c.min-capital.result cap =
     elim c.if-is_cased.branch [
-      | then-is_cased w ↦ (c.is_cased.ensures.0 w.if-is_cased.true, w.is_cased-then-is_cased.ensures.0 (sym w.value-is ∙ c.if-is_cased-2.true))
-      | else-is_cased w ↦ absurd (let clash : true ≡ false = sym c.if-is_cased-2.true ∙ w.value-is ∙ w.if-is_cased.false in cc)
+      | then-is_cased w ↦ (
+        c.is_cased.ensures.0 w.if-is_cased.true,
+        w.is_cased-then-is_cased.ensures.0 (sym w.value-is ∙ c.if-is_cased-2.true),
+      )
+      | else-is_cased w ↦ absurd
+          (let clash : true ≡ false = sym c.if-is_cased-2.true ∙ w.value-is
+          ∙ w.if-is_cased.false in cc)
     ] in (
-      λ yes. pairs_there ends t c.requires.script c.requires.region c.min-capital.result cap both.0 both.1 (c.is_in_lowercase.ensures.0 yes),
-      λ is. c.is_in_lowercase.ensures.1 (there_pairs ends t c.requires.script c.requires.region c.min-capital.result cap is).2,
+      λ yes. pairs_there ends t c.requires.script c.requires.region c.min-capital.result cap both.0
+          both.1 (c.is_in_lowercase.ensures.0 yes),
+      λ is. c.is_in_lowercase.ensures.1
+          (there_pairs ends t c.requires.script c.requires.region c.min-capital.result cap is).2,
     )
 
 pub returns-else-is_cased-2 : goal.returns-else-is_cased-2
@@ -27,9 +34,12 @@ returns-else-is_cased-2 c =
     let cap : c.min-capital.result ≡ capital ends = omega arith in (
       λ yes. absurd (let clash : true ≡ false = sym yes ∙ c.if-is_cased-2.false in cc),
       λ is.
-          let all = there_pairs ends t c.requires.script c.requires.region c.min-capital.result cap is in
+          let all =
+          there_pairs ends t c.requires.script c.requires.region c.min-capital.result cap is in
           elim c.if-is_cased.branch [
             | then-is_cased w ↦ w.value-is ∙ w.is_cased-then-is_cased.ensures.1 all.1
-            | else-is_cased w ↦ absurd (let clash : true ≡ false = sym (c.is_cased.ensures.1 all.0) ∙ w.if-is_cased.false in cc)
+            | else-is_cased w ↦ absurd
+                (let clash : true ≡ false = sym (c.is_cased.ensures.1 all.0)
+                ∙ w.if-is_cased.false in cc)
           ],
     )

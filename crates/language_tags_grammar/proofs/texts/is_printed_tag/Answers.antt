@@ -17,7 +17,9 @@ returns-in-Some c =
 
 pub returns-then-is_ok : goal.returns-then-is_ok
 returns-then-is_ok c =
-    let both = private_print c.args.text.now (lowercase c.in-Some-behind_x.rest.now) c.check.result (sym c.in_default.ensures)
+    let both =
+    private_print c.args.text.now (lowercase c.in-Some-behind_x.rest.now) c.check.result
+    (sym c.in_default.ensures)
     c.in-Some-behind_x.ensures c.check.ensures (sym c.is_ok.ensures.value ∙ c.if-is_ok.true) in
     let same = c.as_bytes.ensures.value in (
       λ yes. both.0 (sym (ap lowercase same) ∙ c.is_in_lowercase.ensures.0 yes ∙ same),
@@ -27,6 +29,9 @@ returns-then-is_ok c =
 pub returns-else-is_ok : goal.returns-else-is_ok
 returns-else-is_ok c = (
   λ yes. let clash : true ≡ false = sym yes ∙ c.if-is_ok.false in cc,
-  λ is. absurd (no_private_print c.args.text.now (lowercase c.in-Some-behind_x.rest.now) c.check.result (sym c.in_default.ensures)
+  λ is.
+      absurd
+      (no_private_print c.args.text.now (lowercase c.in-Some-behind_x.rest.now) c.check.result
+      (sym c.in_default.ensures)
       c.in-Some-behind_x.ensures c.check.ensures (sym c.is_ok.ensures.value ∙ c.if-is_ok.false) is),
 )

@@ -10,6 +10,9 @@ use Rattle.localise.proofs.walk.walk_to_stop.Given as goal
 abbrev pub invariant-loop-steps : goal.invariant-loop-steps
 invariant-loop-steps l = record {
   place : walk_of l.walk ≡ along l.fn.fallbacker l.fn.wanted l.steps;
-  untranslated : NoneBelow l.fn.fallbacker (meanings_of l.fn.bundles.list.items) l.fn.wanted l.fn.request l.steps;
-  known : KnownBelow l.fn.fallbacker (meanings_of l.fn.bundles.list.items) l.fn.wanted l.fn.request l.steps;
+  untranslated :
+      NoneBelow l.fn.fallbacker
+      (meanings_of l.fn.bundles.list.items) l.fn.wanted l.fn.request l.steps;
+  known : KnownBelow l.fn.fallbacker
+      (meanings_of l.fn.bundles.list.items) l.fn.wanted l.fn.request l.steps;
 }

@@ -8,4 +8,5 @@ abbrev pub invariant-loop-parts : goal.invariant-loop-parts
 invariant-loop-parts l =
     (goal.iterator-loop-parts).can_next l.parts-iterator ×
     (goal.iterator-loop-parts).is_finite l.parts-iterator ×
-    (l.texts.items ++ map (bundle_with l.root) (into_iter_items l.parts-iterator) ≡ map (bundle_with l.root) l.fn.bundles.items)
+    (l.texts.items ++ map (bundle_with l.root) (into_iter_items l.parts-iterator)
+    ≡ map (bundle_with l.root) l.fn.bundles.items)

@@ -6,7 +6,8 @@ use Rattle.localise_document.proofs.document.value_of_bytes.Goals as goal
 
 pub returns-in-Ok-clause-ok : goal.returns-in-Ok-clause-ok
 returns-in-Ok-clause-ok c =
-    ap json_of (sym c.as_slice.ensures.value) ∙ json_of_utf8 _ _ c.in-Ok.ensures.ok.0 c.in-Ok.ensures.ok.1
+    ap json_of (sym c.as_slice.ensures.value)
+    ∙ json_of_utf8 _ _ c.in-Ok.ensures.ok.0 c.in-Ok.ensures.ok.1
 
 pub returns-clause-err : goal.returns-clause-err
 returns-clause-err c = λ _. (

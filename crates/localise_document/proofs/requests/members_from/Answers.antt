@@ -12,10 +12,29 @@ returns-clause-ok c =
       is_object = ap view c.in-Object.is ∙ view-Object c.in-Object.members;
       known = c.in-Some.ensures.0;
       context = taken _ _ _ _ _ c.take-2.ensures.value (filled_anew _ _ _ _ c.in-Some.ensures.1);
-      count = taken _ _ _ _ _ c.take-5.ensures.value (filled_anew _ _ _ _ (filled_anew _ _ _ _ (filled_anew _ _ _ _ (filled_anew _ _ _ _ c.in-Some.ensures.1))));
-      items = taken _ _ _ _ _ c.take-7.ensures.value (filled_anew _ _ _ _ (filled_anew _ _ _ _ (filled_anew _ _ _ _ (filled_anew _ _ _ _ (filled_anew _ _ _ _ (filled_anew _ _ _ _ c.in-Some.ensures.1))))));
-      placeholder = taken _ _ _ _ _ c.take-6.ensures.value (filled_anew _ _ _ _ (filled_anew _ _ _ _ (filled_anew _ _ _ _ (filled_anew _ _ _ _ (filled_anew _ _ _ _ c.in-Some.ensures.1)))));
-      plural = taken _ _ _ _ _ c.take-4.ensures.value (filled_anew _ _ _ _ (filled_anew _ _ _ _ (filled_anew _ _ _ _ c.in-Some.ensures.1)));
-      singular = taken _ _ _ _ _ c.take-3.ensures.value (filled_anew _ _ _ _ (filled_anew _ _ _ _ c.in-Some.ensures.1));
+      count =
+          taken _ _ _ _ _ c.take-5.ensures.value
+          (filled_anew _ _ _ _
+          (filled_anew _ _ _ _
+          (filled_anew _ _ _ _ (filled_anew _ _ _ _ c.in-Some.ensures.1))));
+      items =
+          taken _ _ _ _ _ c.take-7.ensures.value
+          (filled_anew _ _ _ _
+          (filled_anew _ _ _ _
+          (filled_anew _ _ _ _
+          (filled_anew _ _ _ _
+          (filled_anew _ _ _ _ (filled_anew _ _ _ _ c.in-Some.ensures.1))))));
+      placeholder =
+          taken _ _ _ _ _ c.take-6.ensures.value
+          (filled_anew _ _ _ _
+          (filled_anew _ _ _ _
+          (filled_anew _ _ _ _
+          (filled_anew _ _ _ _ (filled_anew _ _ _ _ c.in-Some.ensures.1)))));
+      plural =
+          taken _ _ _ _ _ c.take-4.ensures.value
+          (filled_anew _ _ _ _ (filled_anew _ _ _ _ (filled_anew _ _ _ _ c.in-Some.ensures.1)));
+      singular =
+          taken _ _ _ _ _ c.take-3.ensures.value
+          (filled_anew _ _ _ _ (filled_anew _ _ _ _ c.in-Some.ensures.1));
       tag = taken _ _ _ _ _ c.take.ensures.value c.in-Some.ensures.1;
     }

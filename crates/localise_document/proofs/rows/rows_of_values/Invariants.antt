@@ -10,5 +10,7 @@ abbrev pub invariant-loop-value : goal.invariant-loop-value
 invariant-loop-value g l =
     (goal.iterator-loop-value g).can_next l.value-iterator ×
     (goal.iterator-loop-value g).is_finite l.value-iterator ×
-    (behind l.rows.items (rows_from (g.R.RowReader.row_of l.reader) l.section (length l.rows.items) (items_view (into_iter_items l.value-iterator)))
+    (behind l.rows.items
+    (rows_from (g.R.RowReader.row_of l.reader) l.section (length l.rows.items)
+    (items_view (into_iter_items l.value-iterator)))
     ≡ rows_from (g.R.RowReader.row_of l.reader) l.section 0 (items_view l.fn.values.items))

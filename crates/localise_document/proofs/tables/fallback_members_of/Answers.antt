@@ -14,12 +14,19 @@ returns-clause-ok c =
     record {
       members = members_view c.in-Object.members.entries;
       read =
-          ap (λ d. section_of Fallback fallback_names (Some d)) (ap view c.in-Object.is ∙ view-Object c.in-Object.members)
-          ∙ section_of_object Fallback fallback_names (members_view c.in-Object.members.entries) c.in-Some.ensures.0;
+          ap (λ d. section_of Fallback fallback_names (Some d))
+          (ap view c.in-Object.is ∙ view-Object c.in-Object.members)
+          ∙ section_of_object Fallback fallback_names
+          (members_view c.in-Object.members.entries) c.in-Some.ensures.0;
       has = record {
         likely_language = taken _ _ _ _ _ c.take.ensures.value c.in-Some.ensures.1;
-        likely_language_script = taken _ _ _ _ _ c.take-2.ensures.value (filled_anew _ _ _ _ c.in-Some.ensures.1);
-        likely_language_region = taken _ _ _ _ _ c.take-3.ensures.value (filled_anew _ _ _ _ (filled_anew _ _ _ _ c.in-Some.ensures.1));
-        parents = taken _ _ _ _ _ c.take-4.ensures.value (filled_anew _ _ _ _ (filled_anew _ _ _ _ (filled_anew _ _ _ _ c.in-Some.ensures.1)));
+        likely_language_script =
+            taken _ _ _ _ _ c.take-2.ensures.value (filled_anew _ _ _ _ c.in-Some.ensures.1);
+        likely_language_region =
+            taken _ _ _ _ _ c.take-3.ensures.value
+            (filled_anew _ _ _ _ (filled_anew _ _ _ _ c.in-Some.ensures.1));
+        parents =
+            taken _ _ _ _ _ c.take-4.ensures.value
+            (filled_anew _ _ _ _ (filled_anew _ _ _ _ (filled_anew _ _ _ _ c.in-Some.ensures.1)));
       };
     }

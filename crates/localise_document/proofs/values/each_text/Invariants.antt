@@ -10,4 +10,5 @@ abbrev pub invariant-loop-value : goal.invariant-loop-value
 invariant-loop-value l =
     (goal.iterator-loop-value).can_next l.value-iterator ×
     (goal.iterator-loop-value).is_finite l.value-iterator ×
-    (in_front l.texts.items (each_text (items_view (into_iter_items l.value-iterator))) ≡ each_text (items_view l.fn.values.items))
+    (in_front l.texts.items (each_text (items_view (into_iter_items l.value-iterator)))
+    ≡ each_text (items_view l.fn.values.items))

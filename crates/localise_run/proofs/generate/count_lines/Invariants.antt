@@ -13,8 +13,10 @@ invariant-loop-number l = record {
   remade : AreRemade l.initial.requests l.requests;
   locales_known : AreKnown l.tables l.initial.requests l.locales.items l.number;
   lines_counted : (bundles : List Meaning) → AreAlike (meanings l.localiser) bundles
-      → CountsTo l.tables bundles (root_of l.localiser) (made l.initial.requests 0 l.count) l.number l.lines;
+      → CountsTo l.tables bundles (root_of l.localiser)
+      (made l.initial.requests 0 l.count) l.number l.lines;
   visits : (bundles : List Meaning) → AreAlike (meanings l.localiser) bundles
-      → AreVisited l.tables bundles (root_of l.localiser) (take l.number (made l.initial.requests 0 l.count)) l.counted.visited;
+      → AreVisited l.tables bundles (root_of l.localiser)
+      (take l.number (made l.initial.requests 0 l.count)) l.counted.visited;
   small : l.counted.visited ≤ l.number * 2 ^ 67;
 }

@@ -8,5 +8,6 @@ pub loop-item-preserved : goal.loop-item-preserved
 loop-item-preserved c =
     c.in_ok-push.ensures.ok
     ∙ ap (λ (xs : List (List ℕ)). xs ++ c.in_ok-new.field-0 ∷ []) c.loop-item.invariant
-    ∙ ap (λ (x : List ℕ). replicate c.loop-item._item (codes "x") ++ x ∷ []) (c.in_ok-new.ensures.ok ∙ plain (codes "x") refl)
+    ∙ ap (λ (x : List ℕ). replicate c.loop-item._item (codes "x") ++ x ∷ [])
+    (c.in_ok-new.ensures.ok ∙ plain (codes "x") refl)
     ∙ replicate_more c.loop-item._item (codes "x")

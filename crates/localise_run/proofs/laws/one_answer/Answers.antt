@@ -18,8 +18,11 @@ returns c command bytes = says_one (record {
     registry = registry_alike c.rows_make_one_registry.ensures.one d T U h g;
     fallbacker = fallback_one c.rows_make_one_fallbacker.ensures.one d T U h g;
   };
-  one_table_fault = fault_one c.rows_have_one_fault.ensures.one c.rows_have_one_fault.ensures.none c.rows_have_one_fault-2.ensures.one;
-  tables_no_fault = tables_no_fault c.rows_make_one_registry.ensures.sound c.rows_have_one_fault.ensures.none
+  one_table_fault =
+      fault_one c.rows_have_one_fault.ensures.one c.rows_have_one_fault.ensures.none
+      c.rows_have_one_fault-2.ensures.one;
+  tables_no_fault =
+      tables_no_fault c.rows_make_one_registry.ensures.sound c.rows_have_one_fault.ensures.none
       c.rows_make_one_fallbacker.ensures.sound c.rows_have_one_fault-2.ensures.none;
   one_meaning = c.bundles_have_one_meaning.ensures.one;
   one_refusal = c.bundles_have_one_meaning.ensures.one_refusal;

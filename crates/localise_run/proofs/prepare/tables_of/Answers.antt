@@ -5,7 +5,8 @@ use Rattle.localise_run.proofs.prepare.tables_of.Goals as goal
 
 pub returns-in-Err-clause-err : goal.returns-in-Err-clause-err
 returns-in-Err-clause-err c = λ d are also.
-    subst (IsTableStatus d) (sym c.of_registry.ensures) (registry_status d c.args.registry.now are c.in-Err.error c.in-Err.ensures.err)
+    subst (IsTableStatus d) (sym c.of_registry.ensures)
+    (registry_status d c.args.registry.now are c.in-Err.error c.in-Err.ensures.err)
 
 pub returns-in-Err-try_new-clause-err : goal.returns-in-Err-try_new-clause-err
 returns-in-Err-try_new-clause-err c = λ d are also.

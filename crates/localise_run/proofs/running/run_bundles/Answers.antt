@@ -25,12 +25,18 @@ returns-in-Ok g c =
     let l = c.in-Ok.ensures.ok in
     let patterns = root_of c.in-Ok.localiser in
     let accepted =
-    subst (λ (p : PatternTexts). AreAccepted T c.args.document.now.bundles p l.bundles patterns) root
-    (subst (λ (bs : List BundleText). AreAccepted T bs c.document.inside.root l.bundles patterns) bundles l.accepted) in
-    requests_give g.O.Sink.took g.O.Sink.faults g.O.Sink.takes_memory c.args.command c.args.document.now c.args.out.now c.run_requests.new.out T
+    subst
+    (λ (p : PatternTexts). AreAccepted T c.args.document.now.bundles p l.bundles patterns) root
+    (subst (λ (bs : List BundleText). AreAccepted T bs c.document.inside.root l.bundles patterns)
+    bundles l.accepted) in
+    requests_give g.O.Sink.took g.O.Sink.faults g.O.Sink.takes_memory c.args.command
+    c.args.document.now c.args.out.now c.run_requests.new.out T
     l.bundles patterns c.run_requests.result c.requires accepted
-    (subst (λ (qs : List Request). Gives g.O.Sink.took (IsMade c.args.command T l.bundles patterns qs) (Begins c.args.command T l.bundles patterns qs)
-    (written g.O.Sink.faults g.O.Sink.takes_memory c.args.out.now c.run_requests.new.out) c.run_requests.result) requests
+    (subst
+    (λ (qs : List Request). Gives g.O.Sink.took (IsMade c.args.command T l.bundles patterns qs)
+    (Begins c.args.command T l.bundles patterns qs)
+    (written g.O.Sink.faults g.O.Sink.takes_memory c.args.out.now c.run_requests.new.out)
+    c.run_requests.result) requests
     (c.run_requests.ensures l.bundles l.alike))
 
 pub returns-in-Err : goal.returns-in-Err
@@ -40,6 +46,12 @@ returns-in-Err g c =
     let value = c.deref.ensures.value in
     let bundles : c.deref.result.now ≡ c.args.document.now.bundles = cc in
     let root : c.document.inside.root ≡ c.args.document.now.root = cc in
-    bundles_fail g.O.Sink.took g.O.Sink.faults g.O.Sink.takes_memory c.args.command c.args.document.now c.args.out.now c.args.tables.now c.in-Err.status c.requires
-    (subst (λ (p : PatternTexts). IsRefusedBy c.args.tables.now c.args.document.now.bundles p c.in-Err.status) root
-    (subst (λ (bs : List BundleText). IsRefusedBy c.args.tables.now bs c.document.inside.root c.in-Err.status) bundles c.in-Err.ensures.err))
+    bundles_fail g.O.Sink.took g.O.Sink.faults g.O.Sink.takes_memory c.args.command
+    c.args.document.now c.args.out.now c.args.tables.now c.in-Err.status c.requires
+    (subst
+    (λ (p : PatternTexts).
+    IsRefusedBy c.args.tables.now c.args.document.now.bundles p c.in-Err.status) root
+    (subst
+    (λ (bs : List BundleText).
+    IsRefusedBy c.args.tables.now bs c.document.inside.root c.in-Err.status) bundles
+    c.in-Err.ensures.err))

@@ -18,5 +18,6 @@ returns-in-Err g c =
     let in_fallback = ap (λ (d : Contents). d.fallback) c.document.view_is in
     let registry : registry_lists c.document.inside.registry ≡ c.args.document.now.registry = cc in
     let fallback : fallback_lists c.document.inside.fallback ≡ c.args.document.now.fallback = cc in
-    tables_fail g.O.Sink.took g.O.Sink.faults g.O.Sink.takes_memory c.args.command c.args.document.now c.args.out.now c.in-Err.status
+    tables_fail g.O.Sink.took g.O.Sink.faults g.O.Sink.takes_memory c.args.command
+    c.args.document.now c.args.out.now c.in-Err.status
     (c.in-Err.ensures.err c.args.document.now registry fallback)

@@ -6,5 +6,6 @@ use Rattle.localise_run.proofs.walk.write_walks.Given as goal
 
 abbrev pub invariant-loop-number : goal.invariant-loop-number
 invariant-loop-number g l =
-    WroteTo g.O.Sink.took (IsWalkLine l.tables) (IsWalkFault l.tables) l.requests l.initial.out l.number l.out
+    WroteTo g.O.Sink.took (IsWalkLine l.tables)
+    (IsWalkFault l.tables) l.requests l.initial.out l.number l.out
     × AreKnownTags l.tables l.requests l.tags.places.items

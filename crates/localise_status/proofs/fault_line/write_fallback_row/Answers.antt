@@ -9,14 +9,18 @@ use Rattle.localise_status.proofs.fault_line.write_fallback_row.Goals as goal
 
 pub returns-clause-ok : goal.returns-clause-ok
 returns-clause-ok g c =
-    subst (λ (t : List ℕ). OnOk c.write_row.result (g.E.Sink.took c.args.err.now t c.write_row.new.err))
+    subst
+    (λ (t : List ℕ). OnOk c.write_row.result
+    (g.E.Sink.took c.args.err.now t c.write_row.new.err))
     (ap (λ name. row_text name c.args.row (chars c.args.words.now))
     (said _ _ c.name-name.ensures (field_ascii (FallbackTable c.args.table))))
     c.write_row.ensures.ok
 
 pub returns-clause-err : goal.returns-clause-err
 returns-clause-err g c =
-    subst (λ (t : List ℕ). OnErr c.write_row.result (TookPrefix g.E.Sink.took c.args.err.now t c.write_row.new.err))
+    subst
+    (λ (t : List ℕ). OnErr c.write_row.result
+    (TookPrefix g.E.Sink.took c.args.err.now t c.write_row.new.err))
     (ap (λ name. row_text name c.args.row (chars c.args.words.now))
     (said _ _ c.name-name.ensures (field_ascii (FallbackTable c.args.table))))
     c.write_row.ensures.err

@@ -6,12 +6,18 @@ use Rattle.localise_status.proofs.fault_line.write_root.Goals as goal
 
 pub returns-clause-ok : goal.returns-clause-ok
 returns-clause-ok g c =
-    subst (λ (t : List ℕ). OnOk c.write_behind.result (g.E.Sink.took c.args.err.now t c.write_behind.new.err))
-    (ap₂ (λ a b. a ++ b) (plain (codes "root patterns: ") refl) (said _ _ c.text.ensures (list_ascii _)))
+    subst
+    (λ (t : List ℕ). OnOk c.write_behind.result
+    (g.E.Sink.took c.args.err.now t c.write_behind.new.err))
+    (ap₂ (λ a b. a ++ b) (plain (codes "root patterns: ") refl)
+    (said _ _ c.text.ensures (list_ascii _)))
     c.write_behind.ensures.ok
 
 pub returns-clause-err : goal.returns-clause-err
 returns-clause-err g c =
-    subst (λ (t : List ℕ). OnErr c.write_behind.result (TookPrefix g.E.Sink.took c.args.err.now t c.write_behind.new.err))
-    (ap₂ (λ a b. a ++ b) (plain (codes "root patterns: ") refl) (said _ _ c.text.ensures (list_ascii _)))
+    subst
+    (λ (t : List ℕ). OnErr c.write_behind.result
+    (TookPrefix g.E.Sink.took c.args.err.now t c.write_behind.new.err))
+    (ap₂ (λ a b. a ++ b) (plain (codes "root patterns: ") refl)
+    (said _ _ c.text.ensures (list_ascii _)))
     c.write_behind.ensures.err

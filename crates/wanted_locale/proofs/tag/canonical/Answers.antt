@@ -12,4 +12,5 @@ pub returns-clause-err : goal.returns-clause-err
 returns-clause-err c = λ some.
     let p = c.of_canonical.ensures some in
     let q = c.in-Err-canonicalize.ensures.err p.0 in
-    no_canon (record { tag = c.in-Ok.tag; parsed = c.in-Ok.ensures.ok; canon = q.1 }) (p.1 ∙ ap Canonical q.0)
+    no_canon (record { tag = c.in-Ok.tag; parsed = c.in-Ok.ensures.ok; canon = q.1 })
+    (p.1 ∙ ap Canonical q.0)

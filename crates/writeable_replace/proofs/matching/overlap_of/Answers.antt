@@ -1,7 +1,8 @@
 -- The first place from which the bytes are a front of the text leaves the longest one.
 use Rattle.std.specs.Prelude.{nat_eq}
 use Rattle.std.specs.List.{starts_with}
-use Rattle.std.proofs.Common.{◌≡◌, ℕ, ◌-◌, ◌<◌, ◌≤◌, List, [], length, drop, true, sym, ap, subst, arith}
+use Rattle.std.proofs.Common.{◌≡◌, ℕ, ◌-◌, ◌<◌, ◌≤◌, List, [], length, drop, true, sym, ap, subst}
+use Rattle.std.proofs.Common.{arith}
 use Rattle.std.proofs.lemmas.List.{drop_all}
 use Rattle.writeable_replace.specs.Position.{Border}
 use Rattle.writeable_replace.specs.PositionLaws.{IsShift, border_of}
@@ -12,7 +13,8 @@ use Rattle.writeable_replace.proofs.matching.overlap_of.Goals as goal
 first_of : (text bytes : List ℕ) (n : ℕ) → bytes ≡ text
     → ((s : ℕ) → 1 ≤ s → s < n → starts_with nat_eq bytes (drop s bytes) ≡ true → ⊥)
     → (s : ℕ) → 1 ≤ s → s < n → starts_with nat_eq text (drop s text) ≡ true → ⊥
-first_of text bytes n same first s some less is = first s some less (subst (λ t. starts_with nat_eq t (drop s t) ≡ true) (sym same) is)
+first_of text bytes n same first s some less is =
+    first s some less (subst (λ t. starts_with nat_eq t (drop s t) ≡ true) (sym same) is)
 
 pub returns-then-starts_with-clause-border : goal.returns-then-starts_with-clause-border
 returns-then-starts_with-clause-border c =
@@ -20,10 +22,14 @@ returns-then-starts_with-clause-border c =
     let shift : IsShift c.args.text.now c.loop-shift.shift = record {
       some = c.loop-shift.auto.shift;
       within = omega (arith, ap length same);
-      front = tested_shift c.loop-shift.shift same c.starts_with.ensures.value c.if-starts_with.true;
-      first = first_of c.args.text.now c.as_bytes-bytes.result.now c.loop-shift.shift same c.loop-shift.invariant;
+      front =
+          tested_shift c.loop-shift.shift same c.starts_with.ensures.value c.if-starts_with.true;
+      first =
+          first_of c.args.text.now c.as_bytes-bytes.result.now c.loop-shift.shift same
+          c.loop-shift.invariant;
     } in
-    subst (λ n. Border c.args.text.now (n - c.loop-shift.shift)) (ap length (sym same)) (border_of c.args.text.now c.loop-shift.shift c.utf8.text shift)
+    subst (λ n. Border c.args.text.now (n - c.loop-shift.shift)) (ap length (sym same))
+    (border_of c.args.text.now c.loop-shift.shift c.utf8.text shift)
 
 pub returns-clause-border : goal.returns-clause-border
 returns-clause-border c =
@@ -34,7 +40,10 @@ returns-clause-border c =
       some = c.requires;
       within = omega arith;
       front = ap (starts_with nat_eq text) none;
-      first = λ s some less. first_of text c.as_bytes-bytes.result.now c.loop-shift.shift same c.loop-shift.invariant s some
+      first =
+          λ s some less.
+          first_of text c.as_bytes-bytes.result.now c.loop-shift.shift same
+          c.loop-shift.invariant s some
           (omega (arith, ap length same));
     } in
     let zero : length text - length text ≡ 0 = omega arith in

@@ -5,4 +5,5 @@ use Rattle.std.proofs.Common.{◌≡◌, ℕ, ◌≤◌, ◌<◌, true, drop}
 use Rattle.writeable_replace.proofs.matching.overlap_of.Given as goal
 
 abbrev pub invariant-loop-shift : goal.invariant-loop-shift
-invariant-loop-shift l = (s : ℕ) → 1 ≤ s → s < l.shift → starts_with nat_eq l.bytes (drop s l.bytes) ≡ true → ⊥
+invariant-loop-shift l = (s : ℕ) → 1 ≤ s → s < l.shift
+    → starts_with nat_eq l.bytes (drop s l.bytes) ≡ true → ⊥

@@ -1,6 +1,7 @@
 -- The first character of a text.
 use Rattle.std.specs.Prelude.{IsUtf8}
-use Rattle.std.proofs.Common.{◌≡◌, ℕ, List, ◌++◌, ◌∷◌, ◌<◌, chars, length, ap, sym, ◌∙◌, arith, length-append}
+use Rattle.std.proofs.Common.{◌≡◌, ℕ, List, ◌++◌, ◌∷◌, ◌<◌, chars, length, ap, sym, ◌∙◌, arith}
+use Rattle.std.proofs.Common.{length-append}
 use Rattle.std.proofs.lemmas.Str.{chars_past_char, length-encode, len_utf8_bounds}
 use Rattle.writeable_replace.proofs.matching.split_first.Goals as goal
 use lib.Utf8.{encode}
@@ -18,4 +19,5 @@ pub returns : goal.returns
 returns c =
     let steps = c.in_ok-c.ensures.steps in
     behind c.args.text.now c.as_str.result.now c.in_ok-c.c c.utf8.text c.as_str.utf8
-    (sym c.chars-all.ensures.rest ∙ steps.0 ∙ ap (λ s. encode c.in_ok-c.c ++ s) (sym c.as_str.ensures))
+    (sym c.chars-all.ensures.rest ∙ steps.0
+    ∙ ap (λ s. encode c.in_ok-c.c ++ s) (sym c.as_str.ensures))

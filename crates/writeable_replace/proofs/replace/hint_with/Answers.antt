@@ -7,4 +7,5 @@ use Rattle.writeable_replace.proofs.replace.hint_with.Goals as goal
 pub returns : goal.returns
 returns c =
     c.replaced_hint.ensures
-    ∙ ap (λ n. hint_rule c.args.source n c.args.replacement) (sym (byte_length-chars c.args.needle.now c.utf8.needle))
+    ∙ ap (λ n. hint_rule c.args.source n c.args.replacement)
+    (sym (byte_length-chars c.args.needle.now c.utf8.needle))

@@ -12,4 +12,5 @@ pub returns-clause-spans : goal.returns-clause-spans
 returns-clause-spans c = λ marks sink took. spans_of_taken marks sink took
 
 pub returns-clause-closed : goal.returns-clause-closed
-returns-clause-closed c = λ marks sink nests took. (holds_taken marks no_parts sink nests refl took).closed
+returns-clause-closed c =
+    λ marks sink nests took. (holds_taken marks no_parts sink nests refl took).closed

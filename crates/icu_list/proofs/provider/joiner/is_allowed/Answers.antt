@@ -8,4 +8,5 @@ returns-else-allowed c =
     rw c.if-allowed.false
     (is_empty-chars c.args.text.now c.utf8.text c.is_empty.result
     (λ e. eqb-true (length c.args.text.now) 0 (sym c.is_empty.ensures ∙ e))
-    (λ e. let some = eqb-false (length c.args.text.now) 0 (sym c.is_empty.ensures ∙ e) in omega (arith, some)))
+    (λ e. let some = eqb-false (length c.args.text.now) 0 (sym c.is_empty.ensures ∙ e) in
+    omega (arith, some)))

@@ -4,7 +4,8 @@ use Rattle.icu_locale_core.proofs.data.DataLocale.strict_cmp.Goals as goal
 
 pub returns-in_default : goal.returns-in_default
 returns-in_default c =
-    let within : c.loop-piece.piece-index < length c.pieces-piece-items.result = omega arith in record {
+    let within : c.loop-piece.piece-index < length c.pieces-piece-items.result =
+    omega arith in record {
       order = sym (c.loop-piece.invariant
           ∙ cmp-other_piece _ _ _ _ _ _ _ _ _ within c.as_bytes.ensures.value c.min.ensures
           c.split_at.ensures.front c.split_at.ensures.back c.cmp.ensures c.in_default.not-Equal);

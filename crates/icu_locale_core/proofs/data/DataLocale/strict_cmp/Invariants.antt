@@ -9,4 +9,5 @@ use Rattle.icu_locale_core.proofs.data.DataLocale.strict_cmp.Given as goal
 abbrev pub invariant-loop-piece : goal.invariant-loop-piece
 invariant-loop-piece l =
     slice_cmp nat_cmp (print l.self) l.other
-    ≡ slice_cmp nat_cmp (concat (map (λ piece. piece.now) (drop l.piece-index l.piece-items))) l.rest
+    ≡ slice_cmp nat_cmp
+    (concat (map (λ piece. piece.now) (drop l.piece-index l.piece-items))) l.rest

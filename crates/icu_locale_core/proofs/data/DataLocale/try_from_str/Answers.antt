@@ -9,7 +9,8 @@ returns-in_err-language-clause-variant c = (
   search rules,
   λ (l, shape, is). absurd (c.in_err-language.ensures
       (let first : c.split_first.result.0.now ≡ l.language =
-      c.split_first.ensures.first ∙ ap before_dash (sym is) ∙ language_is l shape in rw first shape.language)),
+      c.split_first.ensures.first ∙ ap before_dash (sym is) ∙ language_is l shape in
+      rw first shape.language)),
 )
 
 pub returns-in_err-subdivision-clause-variant : goal.returns-in_err-subdivision-clause-variant
@@ -53,9 +54,14 @@ returns-clause-variant c = (
     },
     record {
       language = rw c.in_ok-language.ensures.1 c.in_ok-language.ensures.0;
-      script = rw c.script-script.ensures.first (taken-shape is_script refl c.split_first.result.1.now);
-      region = rw c.region-region.ensures.first (taken-shape is_region refl c.script-script.result.1.now);
-      variant = rw c.variant-variant.ensures.first (taken-shape is_variant refl c.region-region.result.1.now);
+      script =
+          rw c.script-script.ensures.first (taken-shape is_script refl c.split_first.result.1.now);
+      region =
+          rw c.region-region.ensures.first
+          (taken-shape is_region refl c.script-script.result.1.now);
+      variant =
+          rw c.variant-variant.ensures.first
+          (taken-shape is_variant refl c.region-region.result.1.now);
       subdivision = c.in_ok-subdivision.ensures.shape;
     },
     returns-clause-ok c,

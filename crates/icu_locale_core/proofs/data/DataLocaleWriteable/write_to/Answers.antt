@@ -12,8 +12,10 @@ returns-in_err-push_str-clause-err g c =
     on_err c.from_residual.result
     (subst (λ text. TookPrefix g.S.Sink.took c.args.sink.now text c.push_str.new.self)
     (pieces-parts c.pieces-piece-items.result _ c.pieces-piece-items.ensures.whole
-    (print-IsAscii c.args.self.now c.pieces-piece-items.ensures.shape) c.loop-piece.piece-index _ within)
-    (g.met.S.Sink.front_longer _ _ _ (text_from c.pieces-piece-items.result (c.loop-piece.piece-index + 1))
+    (print-IsAscii c.args.self.now c.pieces-piece-items.ensures.shape)
+    c.loop-piece.piece-index _ within)
+    (g.met.S.Sink.front_longer _ _ _
+    (text_from c.pieces-piece-items.result (c.loop-piece.piece-index + 1))
     (g.met.S.Sink.front_behind _ _ _ _ _ c.loop-piece.invariant c.in_err-push_str.ensures.err)))
 
 pub loop-piece-preserved : goal.loop-piece-preserved
@@ -21,5 +23,6 @@ loop-piece-preserved g c =
     let within : c.loop-piece.piece-index < length c.pieces-piece-items.result = omega arith in
     subst (λ text. g.S.Sink.took c.args.sink.now text c.push_str.new.self)
     (pieces-more c.pieces-piece-items.result _ c.pieces-piece-items.ensures.whole
-    (print-IsAscii c.args.self.now c.pieces-piece-items.ensures.shape) c.loop-piece.piece-index _ within)
+    (print-IsAscii c.args.self.now c.pieces-piece-items.ensures.shape)
+    c.loop-piece.piece-index _ within)
     (g.met.S.Sink.took_both _ _ _ _ _ c.loop-piece.invariant c.in_ok-push_str.ensures.ok)

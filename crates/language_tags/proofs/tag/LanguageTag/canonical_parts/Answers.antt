@@ -2,7 +2,8 @@ use Rattle.std.proofs.Common.{◌++◌, string_bytes, ap, ◌∙◌, length}
 use Rattle.std.specs.Option.{option_copied}
 use Rattle.language_tags_grammar.specs.Tag.{Plain}
 use Rattle.language_tags_grammar.specs.declared.ends.Ends.{Ends}
-use Rattle.language_tags.proofs.BuiltLaws.{IsPushed, new_parts, pushed-canonical, pushed-keeps, pushed-parts}
+use Rattle.language_tags.proofs.BuiltLaws.{IsPushed, new_parts, pushed-canonical, pushed-keeps}
+use Rattle.language_tags.proofs.BuiltLaws.{pushed-parts}
 use Rattle.language_tags.proofs.tag.LanguageTag.canonical_parts.Goals as goal
 
 pub of_parts-requires : goal.of_parts-requires
@@ -44,7 +45,8 @@ of_parts-requires c =
       order = c.in_ok-push_extensions.ensures.2;
       extensions_shape = c.in_ok-push_extensions.ensures.3;
       private_is = c.private_use.ensures.value;
-      text₀ = c.in_ok-push_str.ensures.bytes ∙ ap (λ t. t ++ c.new_language-language.result.now) c.in_ok-text.ensures.bytes;
+      text₀ = c.in_ok-push_str.ensures.bytes
+          ∙ ap (λ t. t ++ c.new_language-language.result.now) c.in_ok-text.ensures.bytes;
       text₁ = c.in_ok-push_part.ensures;
       text₂ = c.in_ok-push_part-2.ensures;
       text₃ = c.in_ok-push_part-3.ensures;
@@ -99,7 +101,8 @@ returns c =
       order = c.in_ok-push_extensions.ensures.2;
       extensions_shape = c.in_ok-push_extensions.ensures.3;
       private_is = c.private_use.ensures.value;
-      text₀ = c.in_ok-push_str.ensures.bytes ∙ ap (λ t. t ++ c.new_language-language.result.now) c.in_ok-text.ensures.bytes;
+      text₀ = c.in_ok-push_str.ensures.bytes
+          ∙ ap (λ t. t ++ c.new_language-language.result.now) c.in_ok-text.ensures.bytes;
       text₁ = c.in_ok-push_part.ensures;
       text₂ = c.in_ok-push_part-2.ensures;
       text₃ = c.in_ok-push_part-3.ensures;
@@ -115,5 +118,6 @@ returns c =
     } in (
       new_parts c.args.registry.now c.args.self.now text ends pushed,
       pushed-canonical c.args.registry.now c.args.self.now text ends pushed,
-      c.of_parts.ensures ∙ ap Plain (pushed-parts c.args.registry.now c.args.self.now text ends pushed),
+      c.of_parts.ensures
+          ∙ ap Plain (pushed-parts c.args.registry.now c.args.self.now text ends pushed),
     )

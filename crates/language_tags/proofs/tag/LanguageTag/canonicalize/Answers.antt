@@ -9,21 +9,44 @@ use Rattle.language_tags.proofs.tag.LanguageTag.canonicalize.Goals as goal
 
 pub returns-then-begins : goal.returns-then-begins
 returns-then-begins c = record {
-  ok = IfOk-weaker c.same.result _ _ (λ tag h. canon_private c.args.registry.now c.args.self.now (Some tag) (ap (λ t. begins t (codes "x-")) (sym c.as_str-text.ensures.value) ∙ sym c.begins.ensures ∙ c.if-begins.true) (ap Some h)) c.same.ensures.ok;
-  err = MatchResult-weaker c.same.result c.same.ensures.err (λ tag h. h) (λ fault h other. absurd (other h));
+  ok =
+      IfOk-weaker c.same.result _ _
+      (λ tag h. canon_private c.args.registry.now c.args.self.now (Some tag)
+      (ap (λ t. begins t (codes "x-")) (sym c.as_str-text.ensures.value) ∙ sym c.begins.ensures
+      ∙ c.if-begins.true) (ap Some h)) c.same.ensures.ok;
+  err =
+      MatchResult-weaker c.same.result c.same.ensures.err (λ tag h. h)
+      (λ fault h other. absurd (other h));
 }
 
 pub returns-then-is_grandfathered : goal.returns-then-is_grandfathered
 returns-then-is_grandfathered c = record {
   ok = IfOk-weaker c.grandfathered_form.result _ _
-      (λ tag h. canon_grandfathered c.args.registry.now c.args.self.now (Some tag) (ap (λ t. begins t (codes "x-")) (sym c.as_str-text.ensures.value) ∙ sym c.begins.ensures ∙ c.if-begins.false) (ap is_grandfathered (sym c.as_str-text.ensures.value) ∙ sym c.is_grandfathered.ensures ∙ c.if-is_grandfathered.true) h) c.grandfathered_form.ensures.ok;
-  err = MatchResult-weaker c.grandfathered_form.result c.grandfathered_form.ensures.err (λ tag h. h) (λ fault h other. absurd (other h));
+      (λ tag h. canon_grandfathered c.args.registry.now c.args.self.now (Some tag)
+      (ap (λ t. begins t (codes "x-")) (sym c.as_str-text.ensures.value) ∙ sym c.begins.ensures
+      ∙ c.if-begins.false) (ap is_grandfathered (sym c.as_str-text.ensures.value)
+      ∙ sym c.is_grandfathered.ensures ∙ c.if-is_grandfathered.true) h)
+      c.grandfathered_form.ensures.ok;
+  err =
+      MatchResult-weaker c.grandfathered_form.result c.grandfathered_form.ensures.err (λ tag h. h)
+      (λ fault h other. absurd (other h));
 }
 
 pub returns-else-is_grandfathered : goal.returns-else-is_grandfathered
 returns-else-is_grandfathered c = record {
   ok = IfOk-weaker c.other_form.result _ _
-      (λ tag h. canon_other c.args.registry.now c.args.self.now (Some tag) (ap (λ t. begins t (codes "x-")) (sym c.as_str-text.ensures.value) ∙ sym c.begins.ensures ∙ c.if-begins.false) (ap is_grandfathered (sym c.as_str-text.ensures.value) ∙ sym c.is_grandfathered.ensures ∙ c.if-is_grandfathered.false) h) c.other_form.ensures.ok;
+      (λ tag h. canon_other c.args.registry.now c.args.self.now (Some tag)
+      (ap (λ t. begins t (codes "x-")) (sym c.as_str-text.ensures.value) ∙ sym c.begins.ensures
+      ∙ c.if-begins.false) (ap is_grandfathered (sym c.as_str-text.ensures.value)
+      ∙ sym c.is_grandfathered.ensures ∙ c.if-is_grandfathered.false) h)
+      c.other_form.ensures.ok;
   err = MatchResult-weaker c.other_form.result c.other_form.ensures.err (λ tag h. h)
-      (λ fault h other. ((h other).0, canon_other c.args.registry.now c.args.self.now None (ap (λ t. begins t (codes "x-")) (sym c.as_str-text.ensures.value) ∙ sym c.begins.ensures ∙ c.if-begins.false) (ap is_grandfathered (sym c.as_str-text.ensures.value) ∙ sym c.is_grandfathered.ensures ∙ c.if-is_grandfathered.false) (h other).1));
+      (λ fault h other. (
+        (h other).0,
+        canon_other c.args.registry.now c.args.self.now None
+            (ap (λ t. begins t (codes "x-")) (sym c.as_str-text.ensures.value)
+            ∙ sym c.begins.ensures ∙ c.if-begins.false)
+            (ap is_grandfathered (sym c.as_str-text.ensures.value)
+            ∙ sym c.is_grandfathered.ensures ∙ c.if-is_grandfathered.false) (h other).1,
+      ));
 }

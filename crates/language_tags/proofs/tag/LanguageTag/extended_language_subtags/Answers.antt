@@ -9,4 +9,5 @@ pub returns : goal.returns
 returns c =
     c.new.ensures ∙ ap pieces_of c.extended_language.ensures.value
     ∙ pieces-part_text (extlangs_of c.args.self.now)
-    (extlangs-clean c.self.inside.ends (string_bytes c.self.inside.text) c.args.self.now c.self.invariant c.self.view_is)
+    (extlangs-clean c.self.inside.ends
+    (string_bytes c.self.inside.text) c.args.self.now c.self.invariant c.self.view_is)

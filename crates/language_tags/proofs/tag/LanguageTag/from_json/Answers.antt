@@ -13,6 +13,7 @@ returns-in_default-fault c = record {
       let same : c.in-Err.fault ≡ fault = cc in (
         λ memory. c.in_default-fault.not-NoMemory (same ∙ memory),
         subst (λ (o : Option (List ℕ)). IfSome o (λ text. IsFaultOf text fault)) c.in-Some.ensures
-            (subst (λ (f : ParseError). IsFaultOf c.in-Some.text.now f) same (c.in-Err.ensures.err c.in_default-fault.not-NoMemory)),
+            (subst (λ (f : ParseError). IsFaultOf c.in-Some.text.now f) same
+            (c.in-Err.ensures.err c.in_default-fault.not-NoMemory)),
       );
 }

@@ -1,12 +1,47 @@
 use Rattle.std.proofs.Common.{arith, string_bytes, ◌∙◌}
-use Rattle.language_tags.proofs.KeptUse.{full_language-text, kept-ascii, kept-within, extlang-script, script-region, region-variant, variant-extension}
+use Rattle.language_tags.proofs.KeptUse.{full_language-text, kept-ascii, kept-within}
+use Rattle.language_tags.proofs.KeptUse.{extlang-script, script-region, region-variant}
+use Rattle.language_tags.proofs.KeptUse.{variant-extension}
 use Rattle.language_tags.proofs.tag.LanguageTag.full_language.Goals as goal
 
 pub front-requires : goal.front-requires
 front-requires c = record {
-  ascii = kept-ascii c.self.inside.ends (string_bytes c.self.inside.text) c.as_str-in-Some.result.now c.in-Some.ends c.args.self.now c.self.invariant c.in-Some.is c.as_str-in-Some.ensures.value c.self.view_is;
-  within = omega (arith, kept-within c.self.inside.ends (string_bytes c.self.inside.text) c.as_str-in-Some.result.now c.in-Some.ends c.args.self.now c.self.invariant c.in-Some.is c.as_str-in-Some.ensures.value c.self.view_is, extlang-script c.self.inside.ends (string_bytes c.self.inside.text) c.as_str-in-Some.result.now c.in-Some.ends c.args.self.now c.self.invariant c.in-Some.is c.as_str-in-Some.ensures.value c.self.view_is, script-region c.self.inside.ends (string_bytes c.self.inside.text) c.as_str-in-Some.result.now c.in-Some.ends c.args.self.now c.self.invariant c.in-Some.is c.as_str-in-Some.ensures.value c.self.view_is, region-variant c.self.inside.ends (string_bytes c.self.inside.text) c.as_str-in-Some.result.now c.in-Some.ends c.args.self.now c.self.invariant c.in-Some.is c.as_str-in-Some.ensures.value c.self.view_is, variant-extension c.self.inside.ends (string_bytes c.self.inside.text) c.as_str-in-Some.result.now c.in-Some.ends c.args.self.now c.self.invariant c.in-Some.is c.as_str-in-Some.ensures.value c.self.view_is);
+  ascii =
+      kept-ascii c.self.inside.ends
+      (string_bytes c.self.inside.text) c.as_str-in-Some.result.now c.in-Some.ends c.args.self.now
+      c.self.invariant c.in-Some.is c.as_str-in-Some.ensures.value c.self.view_is;
+  within =
+      omega (
+        arith,
+        kept-within c.self.inside.ends
+            (string_bytes c.self.inside.text) c.as_str-in-Some.result.now c.in-Some.ends
+            c.args.self.now c.self.invariant c.in-Some.is c.as_str-in-Some.ensures.value
+            c.self.view_is,
+        extlang-script c.self.inside.ends
+            (string_bytes c.self.inside.text) c.as_str-in-Some.result.now c.in-Some.ends
+            c.args.self.now c.self.invariant c.in-Some.is c.as_str-in-Some.ensures.value
+            c.self.view_is,
+        script-region c.self.inside.ends
+            (string_bytes c.self.inside.text) c.as_str-in-Some.result.now c.in-Some.ends
+            c.args.self.now c.self.invariant c.in-Some.is c.as_str-in-Some.ensures.value
+            c.self.view_is,
+        region-variant c.self.inside.ends
+            (string_bytes c.self.inside.text) c.as_str-in-Some.result.now c.in-Some.ends
+            c.args.self.now c.self.invariant c.in-Some.is c.as_str-in-Some.ensures.value
+            c.self.view_is,
+        variant-extension c.self.inside.ends
+            (string_bytes c.self.inside.text) c.as_str-in-Some.result.now c.in-Some.ends
+            c.args.self.now c.self.invariant c.in-Some.is c.as_str-in-Some.ensures.value
+            c.self.view_is,
+      );
 }
 
 pub returns-in-Some : goal.returns-in-Some
-returns-in-Some c = record { value = c.front.ensures ∙ full_language-text c.self.inside.ends (string_bytes c.self.inside.text) c.as_str-in-Some.result.now c.in-Some.ends c.args.self.now c.self.invariant c.in-Some.is c.as_str-in-Some.ensures.value c.self.view_is }
+returns-in-Some c =
+    record {
+      value = c.front.ensures
+          ∙ full_language-text c.self.inside.ends
+          (string_bytes c.self.inside.text) c.as_str-in-Some.result.now c.in-Some.ends
+          c.args.self.now
+          c.self.invariant c.in-Some.is c.as_str-in-Some.ensures.value c.self.view_is;
+    }

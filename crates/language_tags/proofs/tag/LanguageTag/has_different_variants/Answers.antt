@@ -13,4 +13,5 @@ returns-in-Some c =
     ∙ ap (are_different bytes_eq)
     (ap pieces_of c.in-Some.ensures.value
     ∙ pieces-part_text (variants_of c.args.self.now)
-    (variants-clean c.self.inside.ends (string_bytes c.self.inside.text) c.args.self.now c.self.invariant c.self.view_is))
+    (variants-clean c.self.inside.ends
+    (string_bytes c.self.inside.text) c.args.self.now c.self.invariant c.self.view_is))

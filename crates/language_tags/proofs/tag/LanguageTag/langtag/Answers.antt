@@ -13,4 +13,6 @@ pub returns-in_err-ends-clause-err : goal.returns-in_err-ends-clause-err
 returns-in_err-ends-clause-err c =
     let ps = pieces (lowercase c.args.text.now) in
     let p = err_from_is_err_and c.from_residual.result c.from_residual.ensures.1 in
-    rw (p.1, p.2) (λ other. MatchResult-at_err (Scanned ps) (IsFaultOfPieces ps) _ (sym c.in_err-ends.ensures) (scanned_law ps (some_piece (lowercase c.args.text.now))))
+    rw (p.1, p.2)
+    (λ other. MatchResult-at_err (Scanned ps) (IsFaultOfPieces ps) _ (sym c.in_err-ends.ensures)
+    (scanned_law ps (some_piece (lowercase c.args.text.now))))

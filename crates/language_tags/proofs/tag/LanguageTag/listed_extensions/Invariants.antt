@@ -7,4 +7,5 @@ use Rattle.language_tags.proofs.tag.LanguageTag.listed_extensions.Given as goal
 -- what is listed and what is left are all
 abbrev pub invariant-loop-singleton : goal.invariant-loop-singleton
 invariant-loop-singleton l =
-    map pair_of l.extensions.items ++ map item_of l.singleton-iterator ≡ map item_of (extensions_of l.self)
+    map pair_of l.extensions.items ++ map item_of l.singleton-iterator
+    ≡ map item_of (extensions_of l.self)

@@ -16,13 +16,15 @@ returns-in-Ok-clause-ok c = whole c.in-Some.tag.now (sym c.in-Some.ensures) c.in
 pub returns-in-Some-behind_x-clause-ok : goal.returns-in-Some-behind_x-clause-ok
 returns-in-Some-behind_x-clause-ok c =
     IfOk-weaker c.private_tag.result _ _
-    (λ tag h. private_use (sym c.in-None.ensures) (lowercase c.in-Some-behind_x.rest.now) c.in-Some-behind_x.ensures h.0 h.1)
+    (λ tag h. private_use (sym c.in-None.ensures)
+    (lowercase c.in-Some-behind_x.rest.now) c.in-Some-behind_x.ensures h.0 h.1)
     c.private_tag.ensures.ok
 
 pub returns-in-Some-behind_x-clause-err : goal.returns-in-Some-behind_x-clause-err
 returns-in-Some-behind_x-clause-err c =
     MatchResult-weaker c.private_tag.result c.private_tag.ensures.err (λ tag h. h)
-    (λ fault h other. behind_x (sym c.in-None.ensures) (lowercase c.in-Some-behind_x.rest.now) c.in-Some-behind_x.ensures (h other))
+    (λ fault h other. behind_x (sym c.in-None.ensures)
+    (lowercase c.in-Some-behind_x.rest.now) c.in-Some-behind_x.ensures (h other))
 
 pub returns-in-None-behind_x-clause-ok : goal.returns-in-None-behind_x-clause-ok
 returns-in-None-behind_x-clause-ok c =

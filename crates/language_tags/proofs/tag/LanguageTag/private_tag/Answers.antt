@@ -4,7 +4,8 @@ use Rattle.language_tags_grammar.specs.Lemmas.PrivateLaws.{private-ascii}
 use Rattle.language_tags.proofs.tag.LanguageTag.private_tag.Goals as goal
 
 pub whole_in_lowercase-requires : goal.whole_in_lowercase-requires
-whole_in_lowercase-requires c = private-ascii c.args.text.now (lowercase c.args.rest.now) c.requires c.in_ok-check.ensures
+whole_in_lowercase-requires c =
+    private-ascii c.args.text.now (lowercase c.args.rest.now) c.requires c.in_ok-check.ensures
 
 pub returns-in_err-check-clause-err : goal.returns-in_err-check-clause-err
 returns-in_err-check-clause-err c =

@@ -10,10 +10,18 @@ use Rattle.language_tags.proofs.tag.LanguageTag.push_variants.Given as goal
 abbrev pub invariant-loop-subtag : goal.invariant-loop-subtag
 invariant-loop-subtag l = record {
   text : string_bytes l.text
-      ++ dashed (not_written (pieces (string_bytes l.text)) (map (replaced l.registry.variants_preferred) l.subtag-iterator))
+      ++ dashed
+      (not_written (pieces (string_bytes l.text))
+      (map (replaced l.registry.variants_preferred) l.subtag-iterator))
       ≡ string_bytes l.fn.text
-      ++ dashed (not_written (pieces (string_bytes l.fn.text)) (map (replaced l.registry.variants_preferred) (variants_of l.self)));
-  shape : list_all is_variant (not_written (pieces (string_bytes l.text)) (map (replaced l.registry.variants_preferred) l.subtag-iterator)) ≡ true
-      → list_all is_variant (not_written (pieces (string_bytes l.fn.text)) (map (replaced l.registry.variants_preferred) (variants_of l.self))) ≡ true;
+      ++ dashed
+      (not_written (pieces (string_bytes l.fn.text))
+      (map (replaced l.registry.variants_preferred) (variants_of l.self)));
+  shape : list_all is_variant
+      (not_written (pieces (string_bytes l.text))
+      (map (replaced l.registry.variants_preferred) l.subtag-iterator)) ≡ true
+      → list_all is_variant
+      (not_written (pieces (string_bytes l.fn.text))
+      (map (replaced l.registry.variants_preferred) (variants_of l.self))) ≡ true;
   left : list_all is_variant l.subtag-iterator ≡ true;
 }

@@ -9,4 +9,5 @@ pub returns : goal.returns
 returns c =
     c.new.ensures ∙ ap pieces_of c.variant.ensures.value
     ∙ pieces-part_text (variants_of c.args.self.now)
-    (variants-clean c.self.inside.ends (string_bytes c.self.inside.text) c.args.self.now c.self.invariant c.self.view_is)
+    (variants-clean c.self.inside.ends
+    (string_bytes c.self.inside.text) c.args.self.now c.self.invariant c.self.view_is)

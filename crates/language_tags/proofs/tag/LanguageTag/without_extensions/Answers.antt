@@ -4,9 +4,30 @@ use Rattle.language_tags.proofs.tag.LanguageTag.without_extensions.Goals as goal
 
 pub front-requires : goal.front-requires
 front-requires c = record {
-  ascii = kept-ascii c.self.inside.ends (string_bytes c.self.inside.text) c.as_str-in-Some.result.now c.in-Some.ends c.args.self.now c.self.invariant c.in-Some.is c.as_str-in-Some.ensures.value c.self.view_is;
-  within = omega (arith, kept-within c.self.inside.ends (string_bytes c.self.inside.text) c.as_str-in-Some.result.now c.in-Some.ends c.args.self.now c.self.invariant c.in-Some.is c.as_str-in-Some.ensures.value c.self.view_is, variant-extension c.self.inside.ends (string_bytes c.self.inside.text) c.as_str-in-Some.result.now c.in-Some.ends c.args.self.now c.self.invariant c.in-Some.is c.as_str-in-Some.ensures.value c.self.view_is);
+  ascii =
+      kept-ascii c.self.inside.ends
+      (string_bytes c.self.inside.text) c.as_str-in-Some.result.now c.in-Some.ends c.args.self.now
+      c.self.invariant c.in-Some.is c.as_str-in-Some.ensures.value c.self.view_is;
+  within =
+      omega (
+        arith,
+        kept-within c.self.inside.ends
+            (string_bytes c.self.inside.text) c.as_str-in-Some.result.now c.in-Some.ends
+            c.args.self.now c.self.invariant c.in-Some.is c.as_str-in-Some.ensures.value
+            c.self.view_is,
+        variant-extension c.self.inside.ends
+            (string_bytes c.self.inside.text) c.as_str-in-Some.result.now c.in-Some.ends
+            c.args.self.now c.self.invariant c.in-Some.is c.as_str-in-Some.ensures.value
+            c.self.view_is,
+      );
 }
 
 pub returns-in-Some : goal.returns-in-Some
-returns-in-Some c = record { value = c.front.ensures ∙ front-text c.self.inside.ends (string_bytes c.self.inside.text) c.as_str-in-Some.result.now c.in-Some.ends c.args.self.now c.self.invariant c.in-Some.is c.as_str-in-Some.ensures.value c.self.view_is }
+returns-in-Some c =
+    record {
+      value = c.front.ensures
+          ∙ front-text c.self.inside.ends
+          (string_bytes c.self.inside.text) c.as_str-in-Some.result.now c.in-Some.ends
+          c.args.self.now
+          c.self.invariant c.in-Some.is c.as_str-in-Some.ensures.value c.self.view_is;
+    }

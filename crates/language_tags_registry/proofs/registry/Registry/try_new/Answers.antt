@@ -1,7 +1,8 @@
 use Rattle.std.proofs.Common.{arith, get_or, ◌∙◌, not, ap}
 use Rattle.std.proofs.lemmas.Result.{err_from_is_err_and}
 use Rattle.language_tags_registry.specs.declared.kind.RegistryTable.TheVariants.{Languages}
-use Rattle.language_tags_registry.proofs.Filled.{are_tables, filled_push, first_fault, hold_tables, no_memory}
+use Rattle.language_tags_registry.proofs.Filled.{are_tables, filled_push, first_fault, hold_tables}
+use Rattle.language_tags_registry.proofs.Filled.{no_memory}
 use Rattle.language_tags_registry.proofs.TableNumbers.{in_order, number-in_order}
 use Rattle.language_tags_registry.proofs.registry.Registry.try_new.Goals as goal
 
@@ -37,5 +38,6 @@ invariant_of-result c =
 
 pub returns-clause-ok : goal.returns-clause-ok
 returns-clause-ok c =
-    are_tables c.args.rows.now c.loop-table.table-index c.loop-table.tables.items c.loop-table.invariant
+    are_tables c.args.rows.now c.loop-table.table-index c.loop-table.tables.items
+    c.loop-table.invariant
     (omega arith)

@@ -11,5 +11,6 @@ returns-in-Some-clause-ok c = λ bundles alike.
     let q = c.args.request.now in
     let stop = c.in-Some.stop in
     subst (IsGivenBy F bundles root c.args.wanted q) (sym c.of_stop.ensures)
-    (given_at F (meanings_of c.args.self.now.bundles.list.items) bundles root c.args.wanted q stop.locale stop.steps stop.translation
+    (given_at F (meanings_of c.args.self.now.bundles.list.items) bundles root c.args.wanted q
+    stop.locale stop.steps stop.translation
     alike c.in-Some.ensures.outcome c.in-Some.ensures.locale)

@@ -27,4 +27,6 @@ pub returns-in-Err-clause-err : goal.returns-in-Err-clause-err
 returns-in-Err-clause-err c = λ not_memory.
     let are = c.in_ok-bundles.ensures.ok in
     let ne : c.in-Err.error ≢ NoMemory = λ is. not_memory (c.in_root.ensures.memory is) in
-    in_root are.are (fault_some (list_fault (list_texts c.args.root.now)) c.in-Err.error c.in-Err.ensures.err ne) (c.in_root.ensures.own ne)
+    in_root are.are
+    (fault_some (list_fault (list_texts c.args.root.now)) c.in-Err.error c.in-Err.ensures.err
+    ne) (c.in_root.ensures.own ne)

@@ -1,6 +1,7 @@
 use Rattle.std.proofs.Common.{◌≡◌, ◌∙◌}
 use Rattle.tinystr.specs.Text.{titlecase, unpadded}
-use Rattle.tinystr.proofs.Padding.{raised, raised_some, raised_none, raised-map, holds_text-raised, unpadded-raised}
+use Rattle.tinystr.proofs.Padding.{raised, raised_some, raised_none, raised-map, holds_text-raised}
+use Rattle.tinystr.proofs.Padding.{unpadded-raised}
 use Rattle.tinystr.proofs.tiny_str.TinyStr.to_ascii_titlecase.Goals.{in-Some, in_default}
 use Rattle.tinystr.proofs.tiny_str.TinyStr.to_ascii_titlecase.Goals as goal
 
@@ -23,5 +24,6 @@ returns g c =
           (unpadded-raised _ _ _ c.title.invariant
           (raised_some _ _ w.in-Some.ensures.item.0 w.in-Some.ensures.item.1) ∙ text)
       | in_default w ↦ rw w.title-inside-is
-          (unpadded-raised _ _ _ c.title.invariant (raised_none _ w.in_default.ensures.item.0) ∙ text)
+          (unpadded-raised _ _ _ c.title.invariant (raised_none _ w.in_default.ensures.item.0)
+          ∙ text)
     ]

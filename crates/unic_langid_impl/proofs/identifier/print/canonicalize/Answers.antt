@@ -10,5 +10,6 @@ returns-in-Ok-clause-ok c =
     let text : string_bytes c.in-Ok.text ≡ print i = search rules in (
       i,
       c.in_ok-identifier.ensures.ok,
-      c.from_string.ensures ∙ ap chars text ∙ print-chars i (id-IsIdentifier _ i c.in_ok-identifier.ensures.ok),
+      c.from_string.ensures ∙ ap chars text
+          ∙ print-chars i (id-IsIdentifier _ i c.in_ok-identifier.ensures.ok),
     )

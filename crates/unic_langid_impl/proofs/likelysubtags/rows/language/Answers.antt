@@ -11,11 +11,13 @@ returns-in_default c =
 pub returns-then-eq_str : goal.returns-then-eq_str
 returns-then-eq_str c =
     let read = rw c.as_bytes.ensures.value at c.in-Ok.ensures.value in
-    language-cell c.as_str-text.result.now c.args.cell.now c.as_str-text.utf8 c.as_str-text.ensures c.in-Ok.language read.0 read.1
+    language-cell c.as_str-text.result.now c.args.cell.now c.as_str-text.utf8 c.as_str-text.ensures
+    c.in-Ok.language read.0 read.1
     (c.eq_str.ensures.0 c.if-eq_str.true)
 
 pub returns-else-eq_str : goal.returns-else-eq_str
 returns-else-eq_str c =
     let read = rw c.as_bytes.ensures.value at c.in-Ok.ensures.value in
-    language-other c.as_str-text.result.now c.args.cell.now c.as_str-text.utf8 c.as_str-text.ensures c.in-Ok.language read.1
+    language-other c.as_str-text.result.now c.args.cell.now c.as_str-text.utf8 c.as_str-text.ensures
+    c.in-Ok.language read.1
     (λ e. false≢true (sym c.if-eq_str.false ∙ c.eq_str.ensures.1 e))

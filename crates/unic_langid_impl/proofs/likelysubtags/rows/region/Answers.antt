@@ -9,18 +9,23 @@ use Rattle.unic_langid_impl.proofs.likelysubtags.rows.region.Goals as goal
 
 pub returns-in_default : goal.returns-in_default
 returns-in_default c =
-    subtag-none c.as_str-text.result.now c.args.cell.now c.as_str-text.utf8 c.as_str-text.ensures IsRegion uppercase region-upper
-    (λ t h. tiny-IsAscii 3 t (tiny_region t h)) (rw c.as_bytes.ensures.value at c.in_default.ensures.value)
+    subtag-none c.as_str-text.result.now c.args.cell.now c.as_str-text.utf8 c.as_str-text.ensures
+    IsRegion uppercase region-upper
+    (λ t h. tiny-IsAscii 3 t (tiny_region t h))
+    (rw c.as_bytes.ensures.value at c.in_default.ensures.value)
 
 pub returns-then-eq_str : goal.returns-then-eq_str
 returns-then-eq_str c =
     let read = rw c.as_bytes.ensures.value at c.in-Ok.ensures.value in
-    subtag-cell c.as_str-text.result.now c.args.cell.now c.as_str-text.utf8 c.as_str-text.ensures IsRegion uppercase region-upper
-    (λ t h. tiny-IsAscii 3 t (tiny_region t h)) c.in-Ok.region read.0 read.1 (c.eq_str.ensures.0 c.if-eq_str.true)
+    subtag-cell c.as_str-text.result.now c.args.cell.now c.as_str-text.utf8 c.as_str-text.ensures
+    IsRegion uppercase region-upper
+    (λ t h. tiny-IsAscii 3 t (tiny_region t h)) c.in-Ok.region read.0 read.1
+    (c.eq_str.ensures.0 c.if-eq_str.true)
 
 pub returns-else-eq_str : goal.returns-else-eq_str
 returns-else-eq_str c =
     let read = rw c.as_bytes.ensures.value at c.in-Ok.ensures.value in
-    subtag-other c.as_str-text.result.now c.args.cell.now c.as_str-text.utf8 c.as_str-text.ensures IsRegion uppercase region-upper
+    subtag-other c.as_str-text.result.now c.args.cell.now c.as_str-text.utf8 c.as_str-text.ensures
+    IsRegion uppercase region-upper
     (λ t h. tiny-IsAscii 3 t (tiny_region t h)) c.in-Ok.region read.1
     (λ e. false≢true (sym c.if-eq_str.false ∙ c.eq_str.ensures.1 e))

@@ -9,5 +9,6 @@ returns-clause-ok c =
 
 pub returns-clause-err : goal.returns-clause-err
 returns-clause-err c =
-    refuses-err c.args.t.now c.new.result c.parse_language_identifier_from_iter.new.iter c.new.ensures
+    refuses-err c.args.t.now c.new.result
+    c.parse_language_identifier_from_iter.new.iter c.new.ensures
     c.parse_language_identifier_from_iter.result c.parse_language_identifier_from_iter.ensures.err

@@ -12,8 +12,10 @@ returns-in-Copied-clause-borrowed c =
     let text = ap (λ s. encode_utf8_all s.text) (sym c.self.view_is)
     ∙ ap (λ s. encode_utf8_all (text_so_far reference s)) c.in-Copied.is
     ∙ encodes-chars_of c.in-Copied.text in
-    let missing = rw c.in-Copied.is at c.self.invariant in
-    (λ p. absurd p, λ begins. missing (begins_same (ap (λ s. s.reference) (sym c.self.view_is)) text begins))
+    let missing = rw c.in-Copied.is at c.self.invariant in (
+      λ p. absurd p,
+      λ begins. missing (begins_same (ap (λ s. s.reference) (sym c.self.view_is)) text begins),
+    )
 
 pub returns-in-Shared-clause-borrowed : goal.returns-in-Shared-clause-borrowed
 returns-in-Shared-clause-borrowed c =
@@ -22,5 +24,8 @@ returns-in-Shared-clause-borrowed c =
     let shared = rw c.in-Shared.is at c.self.invariant in
     let text = sym (encodes-chars front (IsUtf8-from_is_utf8 front shared.1))
     ∙ ap (λ s. encode_utf8_all (text_so_far reference s)) (sym c.in-Shared.is)
-    ∙ ap (λ s. encode_utf8_all s.text) c.self.view_is in
-    (λ _. begins_same (ap (λ s. s.reference) c.self.view_is) text (found_begins reference c.in-Shared.count shared.0), λ _. tt)
+    ∙ ap (λ s. encode_utf8_all s.text) c.self.view_is in (
+      λ _. begins_same (ap (λ s. s.reference) c.self.view_is) text
+          (found_begins reference c.in-Shared.count shared.0),
+      λ _. tt,
+    )

@@ -6,7 +6,10 @@ use Rattle.writeable_core.proofs.Digits.{length-decimal}
 use Rattle.writeable_core.proofs.impls.numbers.digits.Goals as goal
 
 pub returns-in-Some-clause-count : goal.returns-in-Some-clause-count
-returns-in-Some-clause-count c = sym (length-decimal c.args.number c.in-Some.power (omega arith) c.in-Some.ensures.power_le c.in-Some.ensures.next_power_gt)
+returns-in-Some-clause-count c =
+    sym
+    (length-decimal c.args.number c.in-Some.power
+    (omega arith) c.in-Some.ensures.power_le c.in-Some.ensures.next_power_gt)
 
 pub returns-in-None-clause-count : goal.returns-in-None-clause-count
 returns-in-None-clause-count c =

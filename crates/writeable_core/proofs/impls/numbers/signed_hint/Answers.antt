@@ -13,7 +13,8 @@ returns-then-number-lt0 c =
     let same = to_z-of_z w128 c.args.number c.ranges.number in
     let size = c.unsigned_abs.ensures.value ∙ ap unsigned_abs same in
     let negative : c.args.number <ℤ pos 0 = grind (arith, ints, to_z-of_z) in
-    c.exact.ensures ∙ ap (λ k. exact (k + 1)) (c.digits-count.ensures.count ∙ ap (λ n. length (decimal n)) size)
+    c.exact.ensures
+    ∙ ap (λ k. exact (k + 1)) (c.digits-count.ensures.count ∙ ap (λ n. length (decimal n)) size)
     ∙ ap exact (sym (byte_length-negative c.args.number (omega arith) negative))
 
 pub returns : goal.returns

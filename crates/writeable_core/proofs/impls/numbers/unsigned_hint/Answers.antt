@@ -5,4 +5,5 @@ use Rattle.writeable_core.proofs.Digits.{byte_length-decimal}
 use Rattle.writeable_core.proofs.impls.numbers.unsigned_hint.Goals as goal
 
 pub returns : goal.returns
-returns c = c.exact.ensures ∙ ap exact (c.digits.ensures.count ∙ sym (byte_length-decimal c.args.number (omega arith)))
+returns c = c.exact.ensures
+    ∙ ap exact (c.digits.ensures.count ∙ sym (byte_length-decimal c.args.number (omega arith)))

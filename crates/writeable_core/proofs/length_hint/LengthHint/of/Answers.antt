@@ -5,4 +5,5 @@ use Rattle.writeable_core.specs.Hint.{exact}
 use Rattle.writeable_core.proofs.length_hint.LengthHint.of.Goals as goal
 
 pub returns : goal.returns
-returns c = c.exact.ensures ∙ ap (λ bytes. exact (length bytes)) (sym (encodes-chars c.args.text.now c.utf8.text))
+returns c = c.exact.ensures
+    ∙ ap (λ bytes. exact (length bytes)) (sym (encodes-chars c.args.text.now c.utf8.text))

@@ -6,6 +6,9 @@ use Rattle.writeable_core.proofs.text.OwnedTextDisplay.fmt.Goals as goal
 
 pub returns-clause-writes : goal.returns-clause-writes
 returns-clause-writes g c = λ plain ok.
-    subst (λ (bytes : List ℕ). HasWritten g.W.Write.write_str_gives c.args.f.now bytes c.write_str.new.self)
-    (c.as_str.ensures.value ∙ sym (encodes-chars_of c.self.inside.text) ∙ ap encode_utf8_all c.self.view_is)
+    subst
+    (λ (bytes : List ℕ).
+    HasWritten g.W.Write.write_str_gives c.args.f.now bytes c.write_str.new.self)
+    (c.as_str.ensures.value ∙ sym (encodes-chars_of c.self.inside.text)
+    ∙ ap encode_utf8_all c.self.view_is)
     (c.write_str.ensures.writes plain ok)

@@ -7,7 +7,8 @@ use Rattle.writeable_sinks.proofs.fixed_sink.FixedSink.as_str.Goals as goal
 
 pub returns-clause-fits : goal.returns-clause-fits
 returns-clause-fits g c =
-    let held = byte_length-chars c.self.inside.text.bytes (IsUtf8-from_is_utf8 _ c.self.invariant) in
+    let held =
+    byte_length-chars c.self.inside.text.bytes (IsUtf8-from_is_utf8 _ c.self.invariant) in
     let seen = ap (λ s. byte_length s.text) c.self.view_is in
     let same = ap length c.as_str.ensures.value in
     omega (arith, c.as_str.ensures.fits)

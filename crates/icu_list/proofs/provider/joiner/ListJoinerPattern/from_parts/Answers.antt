@@ -7,7 +7,10 @@ pub returns-then-not-is_char_boundary-clause-err : goal.returns-then-not-is_char
 returns-then-not-is_char_boundary-clause-err c = (
   refl,
   λ place.
-      let yes : c.is_char_boundary.result ≡ true = c.is_char_boundary.ensures.test.1 (place_in c.args.string c.as_str.result.now c.args.index_1 c.as_str.utf8 c.as_str.ensures place) in
+      let yes : c.is_char_boundary.result ≡ true =
+      c.is_char_boundary.ensures.test.1
+      (place_in c.args.string c.as_str.result.now c.args.index_1 c.as_str.utf8
+      c.as_str.ensures place) in
       let no : c.is_char_boundary.result ≡ false = c.if-not-is_char_boundary.true in
       absurd cc,
 )
@@ -15,10 +18,13 @@ returns-then-not-is_char_boundary-clause-err c = (
 pub invariant_of-result : goal.invariant_of-result
 invariant_of-result c = (
   omega arith,
-  place_from c.args.string c.as_str.result.now 0 c.as_str.utf8 c.as_str.ensures (IsCharBoundary-start c.as_str.result.now c.as_str.utf8),
-  place_from c.args.string c.as_str.result.now c.args.index_1 c.as_str.utf8 c.as_str.ensures (c.is_char_boundary.ensures.test.0 c.if-not-is_char_boundary.false),
+  place_from c.args.string c.as_str.result.now 0 c.as_str.utf8 c.as_str.ensures
+      (IsCharBoundary-start c.as_str.result.now c.as_str.utf8),
+  place_from c.args.string c.as_str.result.now c.args.index_1 c.as_str.utf8 c.as_str.ensures
+      (c.is_char_boundary.ensures.test.0 c.if-not-is_char_boundary.false),
 )
 
 pub returns-clause-place : goal.returns-clause-place
 returns-clause-place c =
-    place_from c.args.string c.as_str.result.now c.args.index_1 c.as_str.utf8 c.as_str.ensures (c.is_char_boundary.ensures.test.0 c.if-not-is_char_boundary.false)
+    place_from c.args.string c.as_str.result.now c.args.index_1 c.as_str.utf8 c.as_str.ensures
+    (c.is_char_boundary.ensures.test.0 c.if-not-is_char_boundary.false)

@@ -4,7 +4,9 @@ use Rattle.unic_langid_impl.proofs.likelysubtags.tables.LanguageTables.try_new.G
 
 pub returns-in_err-lang_script-clause-err : goal.returns-in_err-lang_script-clause-err
 returns-in_err-lang_script-clause-err c =
-    let p = err_from_is_err_and c.from_residual-in_err-lang_script.result c.from_residual-in_err-lang_script.ensures.1 in
+    let p =
+    err_from_is_err_and c.from_residual-in_err-lang_script.result
+    c.from_residual-in_err-lang_script.ensures.1 in
     rw (p.1, p.2)
     (in_lang_script (rw c.as_slice.ensures.value at c.in_ok-lang_only.ensures.sound)
     (rw c.as_slice-2.ensures.value at c.in_ok-lang_region.ensures.sound)

@@ -23,4 +23,5 @@ returns-then-to_raw-v-clause-err c =
     other-raw w32 c.args.v c.without_zeros.result.now IsRegion uppercase region-upper
     (λ s h e. c.without_zeros.ensures ∙ ap unpadded c.to_le_bytes.ensures
     ∙ bytes-text_32 s c.args.v (tiny_region s h).bytes (omega (arith, (tiny_region s h).fits)) e)
-    c.in_ok-region.region c.in_ok-region.ensures.value.1 (λ e. c.if-to_raw-v.true (c.to_raw.ensures ∙ e))
+    c.in_ok-region.region c.in_ok-region.ensures.value.1
+    (λ e. c.if-to_raw-v.true (c.to_raw.ensures ∙ e))

@@ -22,4 +22,5 @@ returns-then-to_raw-v-clause-err c =
     other-raw w32 c.args.v c.without_zeros.result.now IsScript titlecase script-title
     (λ s h e. c.without_zeros.ensures ∙ ap unpadded c.to_le_bytes.ensures
     ∙ bytes-text_32 s c.args.v (tiny_script s h).bytes (tiny_script s h).fits e)
-    c.in_ok-script.script c.in_ok-script.ensures.value.1 (λ e. c.if-to_raw-v.true (c.to_raw.ensures ∙ e))
+    c.in_ok-script.script c.in_ok-script.ensures.value.1
+    (λ e. c.if-to_raw-v.true (c.to_raw.ensures ∙ e))

@@ -23,4 +23,5 @@ returns-then-to_raw-v-clause-err c =
     other-raw w64 c.args.v c.without_zeros.result.now IsVariant lowercase variant-lower
     (λ s h e. c.without_zeros.ensures ∙ ap unpadded c.to_le_bytes.ensures
     ∙ bytes-text_64 s c.args.v (tiny_variant s h).bytes (tiny_variant s h).fits e)
-    c.in_ok-variant.variant c.in_ok-variant.ensures.value.1 (λ e. c.if-to_raw-v.true (c.to_raw.ensures ∙ e))
+    c.in_ok-variant.variant c.in_ok-variant.ensures.value.1
+    (λ e. c.if-to_raw-v.true (c.to_raw.ensures ∙ e))
