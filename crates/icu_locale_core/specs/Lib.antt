@@ -5,3 +5,4 @@ pub mod Reading
 pub mod ReadingLaws
 pub mod ShapeLaws
 pub mod Shapes
+pub mod Words

@@ -1,3 +1,6 @@
+ghost use Rattle.std.specs.Prelude.{◌≡◌};
+ghost use Rattle.icu_locale_core.specs.Words.{words_of};
+
 use thiserror::Error;
 
 /// Why a text is no subtag, or no data locale.
@@ -10,7 +13,9 @@ pub enum LocaleError {
 
 impl LocaleError {
     /// The error in words.
-    pub fn text(&self) -> &'static str {
+    pub fn text(&self) -> &'static str
+        ensures { result.now ≡ words_of self.now }
+    {
         match self {
             LocaleError::Malformed => "malformed",
         }

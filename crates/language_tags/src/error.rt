@@ -1,5 +1,5 @@
 ghost use Rattle.std.specs.Prelude.{◌≡◌};
-ghost use Rattle.language_tags.specs.Words.{words_of};
+ghost use Rattle.language_tags.specs.Words.{words_of, words_of_json};
 
 use language_tags_grammar::ParseError;
 use thiserror::Error;
@@ -20,7 +20,9 @@ pub enum TagJsonError {
 
 impl TagJsonError {
     /// The error in words.
-    pub fn text(&self) -> &'static str {
+    pub fn text(&self) -> &'static str
+        ensures { result.now ≡ words_of_json self.now }
+    {
         match self {
             TagJsonError::NotText => "not a text",
             TagJsonError::Parse(fault) => fault.text(),

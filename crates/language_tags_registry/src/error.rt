@@ -1,5 +1,5 @@
 ghost use Rattle.std.specs.Prelude.{◌≡◌};
-ghost use Rattle.language_tags_registry.specs.Words.{words_of};
+ghost use Rattle.language_tags_registry.specs.Words.{words_of, words_of_subtag};
 
 use thiserror::Error;
 
@@ -45,7 +45,9 @@ pub enum SubtagError {
 
 impl SubtagError {
     /// The error in words.
-    pub fn text(&self) -> &'static str {
+    pub fn text(&self) -> &'static str
+        ensures { result.now ≡ words_of_subtag self.now }
+    {
         match self {
             SubtagError::Malformed => "the text hasn't the form of the subtag",
         }

@@ -1,3 +1,4 @@
 pub mod Shapes
 pub mod ShapesLaws
 pub mod Text
+pub mod Words

@@ -1,3 +1,6 @@
+ghost use Rattle.std.specs.Prelude.{◌≡◌};
+ghost use Rattle.tinystr.specs.Words.{words_of};
+
 use thiserror::Error;
 
 /// Why bytes are no text of a `TinyStr`.
@@ -16,7 +19,9 @@ pub enum TinyError {
 
 impl TinyError {
     /// The error in words.
-    pub fn text(&self) -> &'static str {
+    pub fn text(&self) -> &'static str
+        ensures { result.now ≡ words_of self.now }
+    {
         match self {
             TinyError::TooLarge => "more bytes than fit",
             TinyError::NonAscii => "a byte that is not ASCII",

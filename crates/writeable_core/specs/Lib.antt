@@ -10,3 +10,4 @@ pub mod SinkLaws
 pub mod SliceSource
 pub mod TextLaws
 pub mod Texts
+pub mod Words

@@ -3,6 +3,7 @@ ghost use Rattle.std.specs.Prelude.{OnOk, OnErr};
 ghost use Rattle.std.specs.Str.{chars};
 ghost use Rattle.writeable_core.specs.Sink.{TookPrefix, HasCause};
 ghost use Rattle.writeable_core.specs.SinkLaws.{front_of_longer, front_after};
+ghost use Rattle.writeable_core.specs.Words.{words_of};
 
 use thiserror::Error;
 
@@ -19,7 +20,9 @@ pub enum SinkError {
 
 impl SinkError {
     /// A few words on the error.
-    pub fn text(&self) -> &'static str {
+    pub fn text(&self) -> &'static str
+        ensures { result.now ≡ words_of self.now }
+    {
         match self {
             SinkError::Fault => "write fault",
             SinkError::NoMemory => "no memory",

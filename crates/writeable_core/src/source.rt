@@ -2,6 +2,7 @@ ghost use Rattle.std.specs.Prelude.{◌≡◌, ℕ, ◌<◌, ◌≤◌, ◌==◌
 ghost use Rattle.std.specs.Prelude.{OnOk, OnErr};
 ghost use Rattle.std.specs.Io.KnownBytes.{Consumes, Keeps, IsAtEnd};
 ghost use Rattle.writeable_core.specs.Sink.{Rose};
+ghost use Rattle.writeable_core.specs.Words.{words_of_source};
 
 use thiserror::Error;
 
@@ -15,7 +16,9 @@ pub enum SourceFault {
 
 impl SourceFault {
     /// A few words on the fault.
-    pub fn text(&self) -> &'static str {
+    pub fn text(&self) -> &'static str
+        ensures { result.now ≡ words_of_source }
+    {
         "read fault"
     }
 }

@@ -5,6 +5,7 @@ ghost use Rattle.serde_json.specs.View.{view};
 ghost use Rattle.unic_langid_impl.specs.Identifier.{print};
 ghost use Rattle.unic_langid_impl.specs.JsonFaults.{IsJsonFault, json_error_of};
 ghost use Rattle.unic_langid_impl.specs.Reading.{id_of};
+ghost use Rattle.unic_langid_impl.specs.Words.{words_of_json};
 
 use crate::parser::parse_language_identifier;
 use crate::{LanguageIdentifier, ParserError};
@@ -28,7 +29,9 @@ pub enum IdJsonError {
 
 impl IdJsonError {
     /// The error in words.
-    pub fn text(&self) -> &'static str {
+    pub fn text(&self) -> &'static str
+        ensures { result.now ≡ words_of_json self.now }
+    {
         match self {
             IdJsonError::NotText => "not a text",
             IdJsonError::Parse(error) => error.text(),

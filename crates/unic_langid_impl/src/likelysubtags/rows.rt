@@ -9,6 +9,7 @@ ghost use Rattle.unic_langid_impl.specs.LikelyRows.{LanguageCell, LanguageKey, L
 ghost use Rattle.unic_langid_impl.specs.LikelyRows.{LanguageScriptKey, PrintsTriple, RegionCell};
 ghost use Rattle.unic_langid_impl.specs.LikelyRows.{RegionKey, ScriptCell, ScriptKey};
 ghost use Rattle.unic_langid_impl.specs.LikelyRows.{ScriptRegionKey, ThereCell};
+ghost use Rattle.unic_langid_impl.specs.Words.{words_of_rows};
 
 use crate::parser::parse_language_identifier;
 use crate::subtags::{Language, Region, Script};
@@ -54,7 +55,9 @@ pub enum LikelyError {
 
 impl LikelyError {
     /// The error in words.
-    pub fn text(&self) -> &'static str {
+    pub fn text(&self) -> &'static str
+        ensures { result.now ≡ words_of_rows self.now }
+    {
         match self {
             LikelyError::DuplicateKey(..) => "duplicate key",
             LikelyError::BadEntry(..) => "bad entry",

@@ -1,3 +1,6 @@
+ghost use Rattle.std.specs.Prelude.{◌≡◌};
+ghost use Rattle.unic_langid_impl.specs.Words.{words_of_parser};
+
 use thiserror::Error;
 
 /// Why bytes are no identifier, or no subtag.
@@ -16,7 +19,9 @@ pub enum ParserError {
 
 impl ParserError {
     /// The error in words.
-    pub fn text(&self) -> &'static str {
+    pub fn text(&self) -> &'static str
+        ensures { result.now ≡ words_of_parser self.now }
+    {
         match self {
             ParserError::InvalidLanguage => "The given language subtag is invalid",
             ParserError::InvalidSubtag => "Invalid subtag",
